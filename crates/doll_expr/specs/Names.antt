@@ -33,5 +33,5 @@ is_word [] = false
 is_word (byte ∷ bytes) = is_lower byte && list_all is_word_byte bytes
 
 -- a word of at most 40 bytes that isn't reserved
-abbrev pub is_name : List ℕ → Bool
+unfoldable pub is_name : List ℕ → Bool
 is_name bytes = is_word bytes && nat_le (length bytes) 40 && not (is_reserved bytes)

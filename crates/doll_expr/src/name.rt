@@ -84,6 +84,7 @@ fn all_word_bytes(bytes: &[u8]) -> bool
 }
 
 /// Whether this is a name: a word of at most 40 bytes that has no meaning of its own.
+#[tactic(auto, unfolding(crate::specs::Names::is_name))]
 pub fn is_name(bytes: &[u8]) -> bool
     ensures { result ≡ is_name bytes.now }
 {
