@@ -1,0 +1,6 @@
+pub mod Faults
+pub mod Folders
+pub mod Inputs
+pub mod Memories
+pub mod Readings
+pub mod Streams
