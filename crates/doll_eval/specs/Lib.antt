@@ -1,0 +1,3 @@
+pub mod Members
+pub mod Operations
+pub mod Values
