@@ -1,3 +1,4 @@
 pub mod Members
 pub mod Operations
 pub mod Values
+pub mod Living

@@ -1,5 +1,5 @@
 -- What the operators and questions of an expression give, and what a value prints (this project's own).
-use Rattle.std.specs.Prelude.{ℕ, ◌==◌, ◌^◌, ◌-◌, ℤ, pos, negsuc, ◌+ℤ◌, ◌-ℤ◌, ◌*ℤ◌, neg_ℤ, int_le, Bool, true, false, not, ◌&&◌, List, [], ◌++◌, codes, length, bytes_eq, Option, Some, None, if◌then◌else◌}
+use Rattle.std.specs.Prelude.{ℕ, ◌==◌, ◌^◌, ℤ, pos, negsuc, ◌+ℤ◌, ◌-ℤ◌, ◌*ℤ◌, neg_ℤ, nat_lt, Bool, true, false, not, ◌&&◌, List, [], ◌++◌, codes, length, bytes_eq, Option, Some, None, if◌then◌else◌}
 use Rattle.std.specs.Option.{option_map_or}
 use Rattle.std.specs.declared.cmp.Ordering.{Ordering}
 use Rattle.std.specs.Ordering.{nat_cmp, int_cmp, int_eq, is_lt, is_le, is_gt, is_ge}
@@ -20,9 +20,18 @@ nil = val.Plain value.Nil
 abbrev pub truth : Bool → Val
 truth b = val.Plain (value.Bool b)
 
+-- whether a whole number, signed, has at most 64 bits
+abbrev pub has_64_bits : ℤ → Bool
+has_64_bits (pos n) = nat_lt n (2 ^ 63)
+has_64_bits (negsuc n) = nat_lt n (2 ^ 63)
+
 -- a whole number, nil where it has more than 64 bits
 abbrev pub whole : ℤ → Val
-whole n = (if int_le (negsuc (2 ^ 63 - 1)) n && int_le n (pos (2 ^ 63 - 1)) then val.Plain (value.Int n) else nil)
+whole n = (if has_64_bits n then val.Plain (value.Int n) else nil)
+
+-- a whole number where there is one, else nil
+abbrev pub whole_if : Option ℤ → Val
+whole_if number = option_map_or (λ n. val.Plain (value.Int n)) number nil
 
 abbrev pub is_nil : Val → Bool
 is_nil (val.Plain value.Nil) = true

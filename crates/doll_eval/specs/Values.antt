@@ -25,8 +25,8 @@ variable vars name = option_map_or (λ (binding : List ℕ × Val). binding.1) (
 -- what a living record has as a member of its model
 abbrev pub member_value : TableMap → Model → ℕ → ℕ → Row → Member → Val
 member_value table m model id row (member.Attribute at) = option_map_or val.Plain (slice_get row.values at) nil
-member_value table m model id row (member.Key at) = option_map_or (λ key. whole (pos key)) (parent_of row at) nil
-member_value table m model id row member.Id = whole (pos id)
+member_value table m model id row (member.Key at) = option_map_or (λ key. val.Plain (value.Int (pos key))) (parent_of row at) nil
+member_value table m model id row member.Id = val.Plain (value.Int (pos id))
 member_value table m model id row member.UpdatedAt = whole (pos row.updated_at)
 member_value table m model id row (member.Parent at) = option_map_or (λ (b : BelongsTo). option_map_or (λ key. val.Record b.model key) (parent_of row at) nil) (slice_get m.belongs_to at) nil
 member_value table m model id row (member.Children at) = option_map_or (λ (many : HasMany). val.List many.model (children_of table model at id)) (slice_get m.has_many at) nil

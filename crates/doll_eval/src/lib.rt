@@ -2,5 +2,8 @@
 #![tactic(auto)]
 
 pub mod member;
+pub mod operate;
+mod step;
 
 pub use member::Member;
+pub use operate::is_true;
