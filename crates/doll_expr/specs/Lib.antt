@@ -1,2 +1,4 @@
 pub mod Gives
 pub mod Names
+pub mod Tokens
+pub mod Grammar

@@ -1,37 +1,50 @@
--- What a name is, in a schema, a template and a path (this project's own).
-use Rattle.std.specs.Prelude.{ℕ, Bool, false, ◌&&◌, ◌||◌, ◌==◌, nat_le, not, List, [], ◌∷◌, length, codes}
+-- Which words are names, and which are words of the grammars. All of it is this project's own.
+use Rattle.std.specs.Prelude.{ℕ, Bool, false, not, ◌&&◌, ◌||◌, ◌==◌, nat_le, List, [], ◌∷◌, length, is_some, Option, Some, None, if◌then◌else◌, codes}
+use Rattle.std.specs.Char.{is_ascii_digit}
 use Rattle.std.specs.List.{list_all, list_any}
 use Rattle.std.specs.Str.{bytes_eq}
+use Rattle.doll_expr.specs.declared.token.Word.{Word}
+use Rattle.doll_expr.specs.declared.token.Word.TheVariants as word
 
 -- a lower-case letter
 abbrev pub is_lower : ℕ → Bool
-is_lower byte = nat_le 97 byte && nat_le byte 122
+is_lower b = nat_le 97 b && nat_le b 122
 
--- a byte of a word: a lower-case letter, a digit or an underscore
+-- a lower-case letter, a digit or `_`
 abbrev pub is_word_byte : ℕ → Bool
-is_word_byte byte = is_lower byte || (nat_le 48 byte && nat_le byte 57) || byte == 95
+is_word_byte b = is_lower b || is_ascii_digit b || b == 95
 
--- white space of a tag: space, tab, carriage return, line feed
-abbrev pub is_white : ℕ → Bool
-is_white byte = byte == 32 || byte == 9 || byte == 13 || byte == 10
-
--- the words that no name may be
-abbrev pub reserved : List (List ℕ)
-reserved =
-    codes "nil" ∷ codes "true" ∷ codes "false" ∷ codes "if" ∷ codes "elsif" ∷ codes "else" ∷ codes "end" ∷ codes "do"
-    ∷ codes "each" ∷ codes "cache" ∷ codes "render" ∷ codes "partial" ∷ codes "collection" ∷ codes "as"
-    ∷ codes "cached" ∷ codes "and" ∷ codes "or" ∷ codes "not" ∷ codes "in" ∷ codes "id" ∷ codes "updated_at"
-    ∷ codes "size" ∷ []
-
--- whether a word is one of those
-abbrev pub is_reserved : List ℕ → Bool
-is_reserved word = list_any (λ other. bytes_eq word other) reserved
-
--- a lower-case letter first, then bytes of a word
+-- a lower-case letter and word bytes after it
 abbrev pub is_word : List ℕ → Bool
 is_word [] = false
-is_word (byte ∷ bytes) = is_lower byte && list_all is_word_byte bytes
+is_word (b ∷ bs) = is_lower b && list_all is_word_byte bs
 
--- a word of at most 40 bytes that isn't reserved
+-- the words of the grammars of expressions and tags
+unfoldable pub words : List (List ℕ × Word)
+words =
+    (codes "nil", word.Nil) ∷ (codes "true", word.True) ∷ (codes "false", word.False) ∷ (codes "if", word.If)
+    ∷ (codes "elsif", word.Elsif) ∷ (codes "else", word.Else) ∷ (codes "end", word.End) ∷ (codes "do", word.Do)
+    ∷ (codes "each", word.Each) ∷ (codes "cache", word.Cache) ∷ (codes "render", word.Render) ∷ (codes "partial", word.Partial)
+    ∷ (codes "collection", word.Collection) ∷ (codes "as", word.As) ∷ (codes "cached", word.Cached) ∷ (codes "id", word.Id)
+    ∷ (codes "updated_at", word.UpdatedAt) ∷ (codes "size", word.Size) ∷ []
+
+-- what stands behind this text in a table
+abbrev pub lookup : {A : Type 0} → List (List ℕ × A) → List ℕ → Option A
+lookup [] text = None
+lookup (row ∷ rows) text = if bytes_eq row.0 text then Some row.1 else lookup rows text
+
+-- the word of the grammars that this text is
+unfoldable pub word_of : List ℕ → Option Word
+word_of = lookup words
+
+-- Ruby's other operators that are words
+unfoldable pub others : List (List ℕ)
+others = codes "and" ∷ codes "or" ∷ codes "not" ∷ codes "in" ∷ []
+
+-- what is no name: a word of the grammars, or one of the others
+unfoldable pub is_reserved : List ℕ → Bool
+is_reserved text = is_some (word_of text) || list_any (λ other. bytes_eq other text) others
+
+-- A name is a word of at most 40 bytes that isn't reserved.
 unfoldable pub is_name : List ℕ → Bool
-is_name bytes = is_word bytes && nat_le (length bytes) 40 && not (is_reserved bytes)
+is_name text = nat_le (length text) 40 && is_word text && not (is_reserved text)

@@ -3,15 +3,19 @@
 
 pub mod copies;
 pub mod expr;
+mod fault;
+pub mod lex;
+mod literal;
 pub mod memory;
-pub mod name;
 pub mod text;
+pub mod token;
+pub mod words;
 
 pub use copies::{Copied, copy_list};
 pub use expr::{Expr, ExprFault, Op, Query};
+pub use lex::tokens_of;
 pub use memory::Memory;
-pub use name::{
-    LONGEST_NAME, is_lower, is_name, is_reserved, is_text, is_white, is_word, is_word_byte,
-};
 pub use sqlite_items::{Boxed, Items};
 pub use text::{Bytes, Ids, Name, Text};
+pub use token::{Mark, Token, TokenKind, Word};
+pub use words::is_name;

@@ -1,0 +1,184 @@
+-- The tokens of a text. All of it is this project's own.
+use Rattle.std.specs.Prelude.{ℕ, zero, suc, ◌+◌, ◌-◌, ◌*◌, ◌^◌, pos, Bool, true, false, ◌&&◌, ◌||◌, ◌==◌, nat_lt, List, [], ◌∷◌, ◌++◌, length, take, drop, slice_index, Option, Some, None, Result, Ok, Err, if◌then◌else◌, codes}
+use Rattle.std.specs.Char.{is_ascii_digit}
+use Rattle.std.specs.List.{fold, take_while}
+use Rattle.doll_expr.specs.declared.expr.ExprFault.{ExprFault}
+use Rattle.doll_expr.specs.declared.expr.ExprFault.TheVariants.{Unexpected, Unclosed, NumberTooLarge, TooDeep}
+use Rattle.doll_expr.specs.declared.expr.Query.{Query}
+use Rattle.doll_expr.specs.declared.expr.Query.TheVariants as query
+use Rattle.doll_expr.specs.declared.token.Mark.{Mark}
+use Rattle.doll_expr.specs.declared.token.Mark.TheVariants as mark
+use Rattle.doll_expr.specs.declared.token.Word.{Word}
+use Rattle.doll_expr.specs.declared.token.TokenKind.{TokenKind}
+use Rattle.doll_expr.specs.declared.token.TokenKind.TheVariants as kind
+use Rattle.doll_expr.specs.declared.token.Token.{Token}
+use Rattle.doll_expr.specs.Names.{is_lower, is_word_byte, lookup, word_of, is_name}
+
+-- A token with the count of its bytes, or the fault of the text there.
+abbrev pub Front : Type 0
+Front = Result (TokenKind × ℕ) ExprFault
+
+-- ---- numbers: all decimal digits that follow each other
+
+-- the number that decimal digits say
+abbrev pub decimal : List ℕ → ℕ
+decimal digits = fold (λ n digit. 10 * n + (digit - 48)) 0 digits
+
+abbrev pub number_from : ℕ → List ℕ → Front
+number_from at digits = if nat_lt (decimal digits) (2 ^ 63) then Ok (kind.Number (pos (decimal digits)), length digits) else Err (NumberTooLarge at)
+
+unfoldable pub number_at : ℕ → List ℕ → Front
+number_at at bytes = number_from at (take_while is_ascii_digit bytes)
+
+-- ---- words: a lower-case letter and all word bytes that follow it
+
+-- what may be asked of a value by a word with `?` after it
+abbrev pub questions : List (List ℕ × Query)
+questions = (codes "empty", query.Empty) ∷ (codes "any", query.Any) ∷ (codes "nil", query.IsNil) ∷ []
+
+-- the question that these bytes begin with, which only stands directly after a dot
+abbrev pub question : Bool → List ℕ → List ℕ → Option Query
+question after_dot word bytes = if after_dot && slice_index bytes (length word) == 63 then lookup questions word else None
+
+-- a word is one of the grammars' words, or a name, or no token
+abbrev pub plain_word : ℕ → List ℕ → Option Word → Front
+plain_word at word (Some known) = Ok (kind.Word known, length word)
+plain_word at word None = if is_name word then Ok (kind.Name word, length word) else Err (Unexpected at)
+
+abbrev pub word_from : ℕ → List ℕ → Option Query → Front
+word_from at word (Some asked) = Ok (kind.Ask asked, length word + 1)
+word_from at word None = plain_word at word (word_of word)
+
+unfoldable pub word_at : Bool → ℕ → List ℕ → Front
+word_at after_dot at bytes = word_from at (take_while is_word_byte bytes) (question after_dot (take_while is_word_byte bytes) bytes)
+
+-- after an `@` that begins at `at`: a name directly, which the `@` doesn't change
+abbrev pub name_from : ℕ → List ℕ → Front
+name_from at word = if is_name word then Ok (kind.Name word, length word + 1) else Err (Unexpected at)
+
+unfoldable pub name_at : ℕ → List ℕ → Front
+name_at at bytes = name_from at (take_while is_word_byte bytes)
+
+-- ---- texts
+
+-- The place of the closing mark among bytes that begin at `at`. A backslash takes the byte after it along.
+unfoldable pub closing : ℕ → Bool → ℕ → List ℕ → Option ℕ
+closing quote is_taken at [] = None
+closing quote true at (b ∷ bytes) = closing quote false (at + 1) bytes
+closing quote false at (b ∷ bytes) = if b == quote then Some at else closing quote (b == 92) (at + 1) bytes
+
+abbrev pub with_front : List ℕ → Result (List ℕ) ExprFault → Result (List ℕ) ExprFault
+with_front front (Ok bytes) = Ok (front ++ bytes)
+with_front front (Err fault) = Err fault
+
+-- In `'` a backslash before a backslash or a `'` is an escape, and before any other byte itself.
+unfoldable pub single_quoted : Bool → List ℕ → List ℕ
+single_quoted is_escape [] = []
+single_quoted true (b ∷ bytes) = if b == 92 || b == 39 then b ∷ single_quoted false bytes else 92 ∷ b ∷ single_quoted false bytes
+single_quoted false (b ∷ bytes) = if b == 92 then single_quoted true bytes else b ∷ single_quoted false bytes
+
+-- the byte for which a backslash and this byte stand in `"`
+abbrev pub escaped : ℕ → Option ℕ
+escaped c = if c == 92 then Some 92 else (if c == 34 then Some 34 else (if c == 110 then Some 10 else (if c == 116 then Some 9 else None)))
+
+-- an escape, or the fault at its backslash, and what is read after it
+abbrev pub escape_then : ℕ → Option ℕ → Result (List ℕ) ExprFault → Result (List ℕ) ExprFault
+escape_then at (Some byte) more = with_front (byte ∷ []) more
+escape_then at None more = Err (Unexpected at)
+
+-- In `"` a backslash begins one of four escapes, and `#{` is refused. The bytes begin at `at`.
+unfoldable pub double_quoted : Bool → ℕ → List ℕ → Result (List ℕ) ExprFault
+double_quoted is_escape at [] = Ok []
+double_quoted true at (b ∷ bytes) = escape_then (at - 1) (escaped b) (double_quoted false (at + 1) bytes)
+double_quoted false at (b ∷ bytes) =
+    if b == 92 then double_quoted true (at + 1) bytes
+    else (if b == 35 && slice_index bytes 0 == 123 then Err (Unexpected at) else with_front (b ∷ []) (double_quoted false (at + 1) bytes))
+
+-- the text between two marks, of which the first is at `at`
+unfoldable pub quoted : ℕ → ℕ → List ℕ → Result (List ℕ) ExprFault
+quoted quote at bytes = if quote == 39 then Ok (single_quoted false bytes) else double_quoted false (at + 1) bytes
+
+abbrev pub text_of : ℕ → Result (List ℕ) ExprFault → Front
+text_of len (Ok bytes) = Ok (kind.Text bytes, len + 2)
+text_of len (Err fault) = Err fault
+
+abbrev pub text_from : ℕ → ℕ → List ℕ → Option ℕ → Front
+text_from quote at bytes None = Err (Unclosed at)
+text_from quote at bytes (Some len) = text_of len (quoted quote at (take len bytes))
+
+-- a text with its opening mark at `at`, and the bytes after that mark
+unfoldable pub text_at : ℕ → ℕ → List ℕ → Front
+text_at quote at bytes = text_from quote at bytes (closing quote false 0 bytes)
+
+-- ---- marks, by their first byte and the one after it, the longer one where both fit
+
+unfoldable pub mark_of : ℕ → ℕ → Option (Mark × ℕ)
+mark_of b next =
+    if b == 40 then Some (mark.Open, 1) else (if b == 41 then Some (mark.Close, 1) else (if b == 46 then Some (mark.Dot, 1)
+    else (if b == 45 then Some (mark.Minus, 1) else (if b == 43 then Some (mark.Plus, 1) else (if b == 42 then Some (mark.Times, 1)
+    else (if b == 44 then Some (mark.Comma, 1) else (if b == 58 then Some (mark.Colon, 1)
+    else (if b == 91 then Some (mark.OpenBracket, 1) else (if b == 93 then Some (mark.CloseBracket, 1)
+    else (if b == 33 then (if next == 61 then Some (mark.NotEqual, 2) else Some (mark.Not, 1))
+    else (if b == 60 then (if next == 61 then Some (mark.LessOrEqual, 2) else Some (mark.Less, 1))
+    else (if b == 62 then (if next == 61 then Some (mark.GreaterOrEqual, 2) else Some (mark.Greater, 1))
+    else (if b == 124 then (if next == 124 then Some (mark.Or, 2) else Some (mark.Bar, 1))
+    else (if b == 61 && next == 61 then Some (mark.Equal, 2)
+    else (if b == 38 && next == 38 then Some (mark.And, 2) else None)))))))))))))))
+
+abbrev pub mark_from : ℕ → Option (Mark × ℕ) → Front
+mark_from at (Some found) = Ok (kind.Mark found.0, found.1)
+mark_from at None = Err (Unexpected at)
+
+-- ---- the token at the front of a text, and all of them
+
+-- by the first byte, which is 0 where there is none
+unfoldable pub front : Bool → ℕ → List ℕ → Front
+front after_dot at bytes =
+    if is_ascii_digit (slice_index bytes 0) then number_at at bytes
+    else (if is_lower (slice_index bytes 0) then word_at after_dot at bytes
+    else (if slice_index bytes 0 == 64 then name_at at (drop 1 bytes)
+    else (if slice_index bytes 0 == 34 || slice_index bytes 0 == 39 then text_at (slice_index bytes 0) at (drop 1 bytes)
+    else mark_from at (mark_of (slice_index bytes 0) (slice_index bytes 1)))))
+
+abbrev pub is_space : ℕ → Bool
+is_space b = b == 32 || b == 9 || b == 13 || b == 10
+
+abbrev pub is_dot : TokenKind → Bool
+is_dot (kind.Mark mark.Dot) = true
+is_dot _ = false
+
+abbrev pub token : TokenKind → ℕ → Token
+token kind at = record { kind = kind; at = at }
+
+-- The token and those after it, which go by whether it is a dot and by how many bytes of it are left. After a fault nothing is read.
+abbrev pub followed : ℕ → (Bool → ℕ → List Token) → Front → List Token
+followed at others (Ok found) = token found.0 at ∷ others (is_dot found.0) (found.1 - 1)
+followed at others (Err fault) = token (kind.Fault fault) at ∷ []
+
+-- All tokens of the bytes, of which the first stands at `at`; `left` of them still belong to the token before.
+unfoldable pub tokens_from : Bool → ℕ → ℕ → List ℕ → List Token
+tokens_from after_dot at left [] = token kind.End at ∷ []
+tokens_from after_dot at (suc left) (b ∷ bytes) = tokens_from after_dot (at + 1) left bytes
+tokens_from after_dot at zero (b ∷ bytes) =
+    if is_space b then tokens_from after_dot (at + 1) 0 bytes
+    else followed at (λ is_after left. tokens_from is_after (at + 1) left bytes) (front after_dot at (b ∷ bytes))
+
+-- what ends a list of tokens
+abbrev pub is_last : TokenKind → Bool
+is_last kind.End = true
+is_last (kind.Fault fault) = true
+is_last _ = false
+
+-- What stands where no token has room: the end and a fault stay, a token is one too many.
+abbrev pub beyond : Token → Token
+beyond t = if is_last t.kind then t else token (kind.Fault (TooDeep t.at)) t.at
+
+-- at most this many tokens beside the last
+unfoldable pub at_most : ℕ → List Token → List Token
+at_most n [] = []
+at_most zero (t ∷ tokens) = beyond t ∷ []
+at_most (suc n) (t ∷ tokens) = t ∷ at_most n tokens
+
+-- The tokens of a text, at most 200 of them, and then its end or its first fault.
+unfoldable pub tokens_of : List ℕ → List Token
+tokens_of bytes = at_most 200 (tokens_from false 0 0 bytes)

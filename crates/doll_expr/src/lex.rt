@@ -1,0 +1,283 @@
+//! Cuts a text into tokens.
+
+ghost use Rattle.std.specs.Prelude.{◌≡◌, ◌≢◌, ◌⊎◌, ◌+◌, ◌<◌, ◌≤◌, true, false, length, slice_index, IfOk, IfSome};
+ghost use Rattle.std.specs.Char.{is_ascii_digit};
+ghost use Rattle.std.specs.List.{prefix_len};
+ghost use Rattle.doll_expr.specs.Gives.{Gives};
+ghost use Rattle.doll_expr.specs.Names.{is_word_byte};
+ghost use Rattle.doll_expr.specs.Tokens as spec;
+
+use crate::expr::{ExprFault, Query};
+use crate::literal::{byte_at, closing, decimal, quoted};
+use crate::memory::Memory;
+use crate::text::Name;
+use crate::token::{Mark, Token, TokenKind};
+use crate::words::{is_lower, is_name, lookup, word_len, word_of};
+use sqlite_items::Items;
+use std::alloc::Global;
+
+/// How many tokens a text may have beside its end.
+const MOST_TOKENS: u8 = 200;
+
+const QUESTIONS: [(&[u8], Query); 3] = [
+    (b"empty", Query::Empty),
+    (b"any", Query::Any),
+    (b"nil", Query::IsNil),
+];
+
+/// The tokens of a text, at most 200, and at last its end or its first fault. Nothing after a fault is read.
+pub fn tokens_of(alloc: Global, bytes: &[u8]) -> Result<Items<Token>, Memory>
+    requires { length bytes.now ≤ 262144 }
+    ensures { IfOk result (λ tokens. tokens ≡ spec.tokens_of bytes.now) }
+{
+    let mut tokens = Items::new(alloc);
+    let mut after_dot = false;
+    let mut at: u32 = 0;
+    let mut rest = bytes;
+    let mut left = MOST_TOKENS;
+    loop {
+        let spaces = space_len(rest);
+        at += spaces as u32;
+        let (_spaces, ahead) = rest.split_at(spaces);
+        if ahead.is_empty() {
+            tokens.push(Token {
+                kind: TokenKind::End,
+                at,
+            })?;
+            return Ok(tokens);
+        }
+        let (kind, len) = match front(alloc, after_dot, at, ahead) {
+            Ok(found) => found,
+            Err(ExprFault::Memory) => return Err(Memory),
+            Err(fault) => {
+                tokens.push(Token {
+                    kind: TokenKind::Fault(fault),
+                    at,
+                })?;
+                return Ok(tokens);
+            }
+        };
+        if left == 0 {
+            tokens.push(Token {
+                kind: TokenKind::Fault(ExprFault::TooDeep { at }),
+                at,
+            })?;
+            return Ok(tokens);
+        }
+        left -= 1;
+        after_dot = is_dot(&kind);
+        tokens.push(Token { kind, at })?;
+        at += len as u32;
+        let (_token, after) = ahead.split_at(len);
+        rest = after;
+    }
+}
+
+fn is_space(byte: u8) -> bool
+    ensures { result ≡ spec.is_space byte }
+{
+    byte == b' ' || byte == b'\t' || byte == b'\r' || byte == b'\n'
+}
+
+fn space_len(bytes: &[u8]) -> usize
+    ensures value { result ≡ prefix_len spec.is_space bytes.now }
+    ensures within { result ≤ length bytes.now }
+{
+    for (at, byte) in bytes.iter().enumerate() {
+        if !is_space(*byte) {
+            return at;
+        }
+    }
+    bytes.len()
+}
+
+fn digit_len(bytes: &[u8]) -> usize
+    ensures value { result ≡ prefix_len is_ascii_digit bytes.now }
+    ensures within { result ≤ length bytes.now }
+    ensures moves { 0 < length bytes.now → is_ascii_digit (slice_index bytes.now 0) ≡ true → 0 < result }
+{
+    for (at, byte) in bytes.iter().enumerate() {
+        if !byte.is_ascii_digit() {
+            return at;
+        }
+    }
+    bytes.len()
+}
+
+fn is_dot(kind: &TokenKind) -> bool
+    ensures { result ≡ spec.is_dot kind.now }
+{
+    matches!(kind, TokenKind::Mark(Mark::Dot))
+}
+
+/// The token at the front, and how many bytes it takes.
+#[tactic(auto, unfolding(crate::specs::Tokens::front))]
+fn front(
+    alloc: Global,
+    after_dot: bool,
+    at: u32,
+    bytes: &[u8],
+) -> Result<(TokenKind, usize), ExprFault>
+    requires { at + length bytes.now ≤ 262144 }
+    ensures value { Gives ExprFault.Memory (spec.front after_dot at bytes.now) result }
+    ensures within { IfOk result (λ found. (1 ≤ found.1) × (found.1 ≤ length bytes.now)) }
+    ensures plain { IfOk result (λ found. spec.is_last found.0 ≡ false) }
+{
+    let first = byte_at(bytes, 0);
+    if first.is_ascii_digit() {
+        return number_at(at, bytes);
+    }
+    if is_lower(first) {
+        return word_at(alloc, after_dot, at, bytes);
+    }
+    if first == b'@' {
+        let (_sign, rest) = bytes.split_at(1);
+        return name_at(alloc, at, rest);
+    }
+    if first == b'"' || first == b'\'' {
+        let (_quote, rest) = bytes.split_at(1);
+        return text_at(alloc, first, at, rest);
+    }
+    mark_at(at, bytes)
+}
+
+#[tactic(auto, unfolding(crate::specs::Tokens::number_at))]
+fn number_at(at: u32, bytes: &[u8]) -> Result<(TokenKind, usize), ExprFault>
+    requires some { 0 < length bytes.now }
+    requires digit { is_ascii_digit (slice_index bytes.now 0) ≡ true }
+    ensures value { Gives ExprFault.Memory (spec.number_at at bytes.now) result }
+    ensures within { IfOk result (λ found. (1 ≤ found.1) × (found.1 ≤ length bytes.now)) }
+    ensures plain { IfOk result (λ found. spec.is_last found.0 ≡ false) }
+{
+    let (digits, _rest) = bytes.split_at(digit_len(bytes));
+    match decimal(digits) {
+        Some(value) => Ok((TokenKind::Number(value), digits.len())),
+        None => Err(ExprFault::NumberTooLarge { at }),
+    }
+}
+
+fn question(after_dot: bool, word: &[u8], bytes: &[u8]) -> Option<Query>
+    ensures value { result ≡ spec.question after_dot word.now bytes.now }
+    ensures within { IfSome result (λ asked. length word.now < length bytes.now) }
+{
+    if after_dot && byte_at(bytes, word.len()) == b'?' {
+        lookup(&QUESTIONS, word)
+    } else {
+        None
+    }
+}
+
+#[tactic(auto, unfolding(crate::specs::Tokens::word_at))]
+fn word_at(
+    alloc: Global,
+    after_dot: bool,
+    at: u32,
+    bytes: &[u8],
+) -> Result<(TokenKind, usize), ExprFault>
+    requires some { 0 < length bytes.now }
+    requires letter { is_word_byte (slice_index bytes.now 0) ≡ true }
+    ensures value { Gives ExprFault.Memory (spec.word_at after_dot at bytes.now) result }
+    ensures within { IfOk result (λ found. (1 ≤ found.1) × (found.1 ≤ length bytes.now)) }
+    ensures plain { IfOk result (λ found. spec.is_last found.0 ≡ false) }
+{
+    let (word, _rest) = bytes.split_at(word_len(bytes));
+    if let Some(asked) = question(after_dot, word, bytes) {
+        return Ok((TokenKind::Ask(asked), word.len() + 1));
+    }
+    if let Some(known) = word_of(word) {
+        return Ok((TokenKind::Word(known), word.len()));
+    }
+    if !is_name(word) {
+        return Err(ExprFault::Unexpected { at });
+    }
+    Ok((TokenKind::Name(Name::from_bytes(alloc, word)?), word.len()))
+}
+
+/// The name directly after an `@` that is at `at`.
+#[tactic(auto, unfolding(crate::specs::Tokens::name_at))]
+fn name_at(alloc: Global, at: u32, bytes: &[u8]) -> Result<(TokenKind, usize), ExprFault>
+    ensures value { Gives ExprFault.Memory (spec.name_at at bytes.now) result }
+    ensures within { IfOk result (λ found. (1 ≤ found.1) × (found.1 ≤ length bytes.now + 1)) }
+    ensures plain { IfOk result (λ found. spec.is_last found.0 ≡ false) }
+{
+    let (word, _rest) = bytes.split_at(word_len(bytes));
+    if !is_name(word) {
+        return Err(ExprFault::Unexpected { at });
+    }
+    Ok((
+        TokenKind::Name(Name::from_bytes(alloc, word)?),
+        word.len() + 1,
+    ))
+}
+
+/// The text whose opening mark is at `at`, from the bytes after that mark.
+#[tactic(auto, unfolding(crate::specs::Tokens::text_at))]
+fn text_at(alloc: Global, quote: u8, at: u32, bytes: &[u8]) -> Result<(TokenKind, usize), ExprFault>
+    requires { at + length bytes.now ≤ 262144 }
+    ensures value { Gives ExprFault.Memory (spec.text_at quote at bytes.now) result }
+    ensures within { IfOk result (λ found. (1 ≤ found.1) × (found.1 ≤ length bytes.now + 1)) }
+    ensures plain { IfOk result (λ found. spec.is_last found.0 ≡ false) }
+{
+    let Some(len) = closing(quote, bytes) else {
+        return Err(ExprFault::Unclosed { at });
+    };
+    let (body, _rest) = bytes.split_at(len);
+    let text = quoted(alloc, quote, at, body)?;
+    Ok((TokenKind::Text(text), len + 2))
+}
+
+fn mark_at(at: u32, bytes: &[u8]) -> Result<(TokenKind, usize), ExprFault>
+    ensures value { Gives ExprFault.Memory (spec.mark_from at (spec.mark_of (slice_index bytes.now 0) (slice_index bytes.now 1))) result }
+    ensures within { IfOk result (λ found. (1 ≤ found.1) × (found.1 ≤ length bytes.now)) }
+    ensures plain { IfOk result (λ found. spec.is_last found.0 ≡ false) }
+{
+    let next = byte_at(bytes, 1);
+    match mark_of(byte_at(bytes, 0), next) {
+        Some((mark, len)) => Ok((TokenKind::Mark(mark), len)),
+        None => Err(ExprFault::Unexpected { at }),
+    }
+}
+
+/// The mark at the front, by its first byte and the one after it, and its length.
+#[tactic(auto, unfolding(crate::specs::Tokens::mark_of))]
+fn mark_of(first: u8, next: u8) -> Option<(Mark, usize)>
+    ensures value { result ≡ spec.mark_of first next }
+    ensures one { IfSome result (λ found. (1 ≤ found.1) × (first ≢ 0)) }
+    ensures two { IfSome result (λ found. (found.1 ≤ 1) ⊎ ((found.1 ≤ 2) × (next ≢ 0))) }
+{
+    match first {
+        b'(' => Some((Mark::Open, 1)),
+        b')' => Some((Mark::Close, 1)),
+        b'.' => Some((Mark::Dot, 1)),
+        b'-' => Some((Mark::Minus, 1)),
+        b'+' => Some((Mark::Plus, 1)),
+        b'*' => Some((Mark::Times, 1)),
+        b',' => Some((Mark::Comma, 1)),
+        b':' => Some((Mark::Colon, 1)),
+        b'[' => Some((Mark::OpenBracket, 1)),
+        b']' => Some((Mark::CloseBracket, 1)),
+        b'!' => Some(if next == b'=' {
+            (Mark::NotEqual, 2)
+        } else {
+            (Mark::Not, 1)
+        }),
+        b'<' => Some(if next == b'=' {
+            (Mark::LessOrEqual, 2)
+        } else {
+            (Mark::Less, 1)
+        }),
+        b'>' => Some(if next == b'=' {
+            (Mark::GreaterOrEqual, 2)
+        } else {
+            (Mark::Greater, 1)
+        }),
+        b'|' => Some(if next == b'|' {
+            (Mark::Or, 2)
+        } else {
+            (Mark::Bar, 1)
+        }),
+        b'=' if next == b'=' => Some((Mark::Equal, 2)),
+        b'&' if next == b'&' => Some((Mark::And, 2)),
+        _ => None,
+    }
+}
