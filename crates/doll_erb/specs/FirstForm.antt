@@ -1,7 +1,8 @@
 -- The templates that are read so far: texts, and tags that write a step of a variable (this project's own).
 use Rattle.std.specs.Prelude.{ℕ, zero, suc, ◌≡◌, ◌+◌, ◌-◌, ◌&&◌, ◌==◌, List, [], ◌∷◌, length, take, drop, slice_index, Option, None, Some, Result, Ok, Err, MatchResult, if◌then◌else◌}
 use Rattle.std.specs.List.{prefix_len, take_while}
-use Rattle.doll_expr.specs.Names.{is_white, is_word_byte, is_name}
+use Rattle.doll_expr.specs.Names.{is_word_byte, is_name}
+use Rattle.doll_expr.specs.Tokens.{is_space}
 use Rattle.doll_expr.specs.declared.expr.Expr.{roll-Expr}
 use Rattle.doll_expr.specs.declared.expr.Expr.TheOpen.{Expr-F}
 use Rattle.doll_erb.specs.declared.node.Node.{Node, roll-Node}
@@ -15,7 +16,7 @@ use Rattle.doll_erb.specs.Pieces.{piece_at}
 
 -- the bytes without the white space at their front
 abbrev pub skip_white : List ℕ → List ℕ
-skip_white bytes = drop (prefix_len is_white bytes) bytes
+skip_white bytes = drop (prefix_len is_space bytes) bytes
 
 -- the word at the front, and what follows it
 abbrev pub word_at : List ℕ → List ℕ × List ℕ

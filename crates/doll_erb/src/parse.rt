@@ -4,13 +4,15 @@ ghost use Rattle.std.specs.Prelude.{◌≡◌, ◌≤◌, ◌<◌, ◌+◌, ◌-
 ghost use Rattle.std.specs.List.{prefix_len};
 ghost use Rattle.std.specs.Option.{option_map};
 ghost use Rattle.doll_expr.specs.Gives.{Gives};
-ghost use Rattle.doll_expr.specs.Names.{is_white, is_word_byte};
+ghost use Rattle.doll_expr.specs.Names.{is_word_byte};
+ghost use Rattle.doll_expr.specs.Tokens.{is_space};
 ghost use Rattle.doll_erb.specs.Pieces.{piece_at, IsInside};
 ghost use Rattle.doll_erb.specs.FirstForm.{skip_white, word_at, step_of, bytes_of, write_step, node_of, tree_of, GivesNode};
 
 use crate::cut::{Tag, TagKind, piece_at};
 use crate::node::{ErbFault, Node, Tree};
-use doll_expr::{Boxed, Expr, Items, Memory, Name, Text, is_name, is_white, is_word_byte};
+use doll_expr::words::word_len;
+use doll_expr::{Boxed, Expr, Items, Memory, Name, Text, is_name};
 use std::alloc::Global;
 
 fn skip_white(bytes: &[u8]) -> &[u8]
@@ -19,26 +21,19 @@ fn skip_white(bytes: &[u8]) -> &[u8]
     &bytes[white_len(bytes)..]
 }
 
-/// How much white space stands at the front.
-fn white_len(bytes: &[u8]) -> usize
-    ensures value { result ≡ prefix_len is_white bytes.now }
-    ensures within { result ≤ length bytes.now }
+fn is_space(byte: u8) -> bool
+    ensures { result ≡ is_space byte }
 {
-    for (len, byte) in bytes.iter().enumerate() {
-        if !is_white(*byte) {
-            return len;
-        }
-    }
-    bytes.len()
+    byte == b' ' || byte == b'\t' || byte == b'\r' || byte == b'\n'
 }
 
-/// How long the word at the front is.
-fn word_len(bytes: &[u8]) -> usize
-    ensures value { result ≡ prefix_len is_word_byte bytes.now }
+/// How much white space stands at the front.
+fn white_len(bytes: &[u8]) -> usize
+    ensures value { result ≡ prefix_len is_space bytes.now }
     ensures within { result ≤ length bytes.now }
 {
     for (len, byte) in bytes.iter().enumerate() {
-        if !is_word_byte(*byte) {
+        if !is_space(*byte) {
             return len;
         }
     }
