@@ -2,3 +2,4 @@ pub mod Gives
 pub mod Names
 pub mod Tokens
 pub mod Grammar
+pub mod Reading

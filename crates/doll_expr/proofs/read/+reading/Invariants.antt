@@ -1,0 +1,13 @@
+use Rattle.doll_expr.proofs.read.+reading.Given as goal
+
+abbrev pub decreases-atom : goal.decreases-atom
+decreases-atom l = l.turns
+
+abbrev pub decreases-more : goal.decreases-more
+decreases-more l = l.turns
+
+abbrev pub decreases-operands : goal.decreases-operands
+decreases-operands l = l.turns
+
+abbrev pub decreases-unary : goal.decreases-unary
+decreases-unary l = l.turns

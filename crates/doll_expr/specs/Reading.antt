@@ -1,0 +1,221 @@
+-- Reading an expression from the left, with the first fault that is met. The grammar is in Grammar; this says which fault comes, and where.
+use Rattle.std.specs.Prelude.{◌≡◌, ℕ, zero, suc, Bool, true, false, not, ◌&&◌, ◌==◌, List, [], ◌∷◌, length, drop, Option, Some, None, Result, Ok, Err, MatchResult, if◌then◌else◌, codes}
+use Rattle.doll_expr.specs.declared.expr.Expr.{Expr}
+use Rattle.doll_expr.specs.declared.expr.Expr.TheVariants as e
+use Rattle.doll_expr.specs.declared.expr.ExprFault.{ExprFault}
+use Rattle.doll_expr.specs.declared.expr.ExprFault.TheVariants.{Unexpected, Unclosed, TooDeep, Memory}
+use Rattle.doll_expr.specs.declared.expr.Op.{Op}
+use Rattle.doll_expr.specs.declared.expr.Op.TheVariants as op
+use Rattle.doll_expr.specs.declared.expr.Query.TheVariants as query
+use Rattle.doll_expr.specs.declared.level.Level.{Level}
+use Rattle.doll_expr.specs.declared.level.Level.TheVariants as level
+use Rattle.doll_expr.specs.declared.level.Sign.{Sign}
+use Rattle.doll_expr.specs.declared.level.Sign.TheVariants as sign
+use Rattle.doll_expr.specs.declared.token.Mark.{Mark}
+use Rattle.doll_expr.specs.declared.token.Mark.TheVariants as mark
+use Rattle.doll_expr.specs.declared.token.Word.{Word}
+use Rattle.doll_expr.specs.declared.token.Word.TheVariants as word
+use Rattle.doll_expr.specs.declared.token.Token.{Token}
+use Rattle.doll_expr.specs.declared.token.TokenKind.{TokenKind}
+use Rattle.doll_expr.specs.declared.token.TokenKind.TheVariants as kind
+use Rattle.doll_expr.specs.Tokens.{is_dot, tokens_of}
+
+-- ---- the levels of operators, and the operators of each
+
+abbrev pub tighter : Level → Option Level
+tighter level.Or = Some level.And
+tighter level.And = Some level.Equality
+tighter level.Equality = Some level.Order
+tighter level.Order = Some level.Sum
+tighter level.Sum = Some level.Product
+tighter level.Product = Some level.Unary
+tighter level.Unary = None
+
+-- whether operators of the level may follow each other; equalities and orders may not
+abbrev pub repeats : Level → Bool
+repeats level.Equality = false
+repeats level.Order = false
+repeats _ = true
+
+abbrev pub between : Level → Mark → Option Op
+between level.Or mark.Or = Some op.Or
+between level.And mark.And = Some op.And
+between level.Equality mark.Equal = Some op.Eq
+between level.Equality mark.NotEqual = Some op.Ne
+between level.Order mark.Less = Some op.Lt
+between level.Order mark.LessOrEqual = Some op.Le
+between level.Order mark.Greater = Some op.Gt
+between level.Order mark.GreaterOrEqual = Some op.Ge
+between level.Sum mark.Plus = Some op.Add
+between level.Sum mark.Minus = Some op.Sub
+between level.Product mark.Times = Some op.Mul
+between _ _ = None
+
+-- ---- what a token is here
+
+abbrev pub operator_of : Level → TokenKind → Option Op
+operator_of l (kind.Mark m) = between l m
+operator_of l _ = None
+
+abbrev pub sign_of : TokenKind → Option Sign
+sign_of (kind.Mark mark.Not) = Some sign.Not
+sign_of (kind.Mark mark.Minus) = Some sign.Minus
+sign_of _ = None
+
+abbrev pub signed : Sign → Expr → Expr
+signed sign.Not a = e.Not a
+signed sign.Minus a = e.Neg a
+
+abbrev pub constant : Word → Option Expr
+constant word.Nil = Some e.Nil
+constant word.True = Some e.True
+constant word.False = Some e.False
+constant _ = None
+
+-- a token that is an expression by itself
+abbrev pub literal : TokenKind → Option Expr
+literal (kind.Number n) = Some (e.Int n)
+literal (kind.Text text) = Some (e.Text text)
+literal (kind.Name name) = Some (e.Var name)
+literal (kind.Word w) = constant w
+literal _ = None
+
+abbrev pub step_by : Expr → Word → Option Expr
+step_by a word.Id = Some (e.Step a (codes "id"))
+step_by a word.UpdatedAt = Some (e.Step a (codes "updated_at"))
+step_by a word.Size = Some (e.Ask a query.Size)
+step_by a _ = None
+
+-- what a token after a dot makes of the expression before it
+abbrev pub step_of : Expr → TokenKind → Option Expr
+step_of a (kind.Name name) = Some (e.Step a name)
+step_of a (kind.Ask q) = Some (e.Ask a q)
+step_of a (kind.Word w) = step_by a w
+step_of a _ = None
+
+abbrev pub is_each : TokenKind → Bool
+is_each (kind.Word word.Each) = true
+is_each _ = false
+
+abbrev pub is_open : TokenKind → Bool
+is_open (kind.Mark mark.Open) = true
+is_open _ = false
+
+abbrev pub is_close : TokenKind → Bool
+is_close (kind.Mark mark.Close) = true
+is_close _ = false
+
+abbrev pub is_end : TokenKind → Bool
+is_end kind.End = true
+is_end _ = false
+
+-- ---- the first token; past the last one there is the end
+
+abbrev pub first_kind : List Token → TokenKind
+first_kind [] = kind.End
+first_kind (t ∷ ts) = t.kind
+
+abbrev pub place : List Token → ℕ
+place [] = 0
+place (t ∷ ts) = t.at
+
+-- a dot and a step after it; a dot before `each` ends an expression
+abbrev pub has_step : List Token → Bool
+has_step ts = is_dot (first_kind ts) && not (is_each (first_kind (drop 1 ts)))
+
+-- ---- faults. The number, where there is one, is the place of the innermost parenthesis that is open.
+
+abbrev pub ends_early : Option ℕ → ℕ → ExprFault
+ends_early None at = Unexpected at
+ends_early (Some opened) at = Unclosed opened
+
+abbrev pub fault_of : Option ℕ → ℕ → TokenKind → ExprFault
+fault_of opened at (kind.Fault fault) = fault
+fault_of opened at kind.End = ends_early opened at
+fault_of opened at _ = Unexpected at
+
+-- the first token can't stand where it does: a lexical fault is itself, the end comes too early, others are unexpected
+unfoldable pub fault_at : Option ℕ → List Token → ExprFault
+fault_at opened ts = fault_of opened (place ts) (first_kind ts)
+
+-- nothing goes on like this behind an expression, of which `.` and `each` are no part
+unfoldable pub stops_at : Option ℕ → List Token → ExprFault
+stops_at opened ts = if is_dot (first_kind ts) && is_each (first_kind (drop 1 ts)) then fault_at opened (drop 1 ts) else fault_at opened ts
+
+-- ---- reading: the tree, and the tokens after it
+
+abbrev pub Read : Type 0
+Read = Result (Expr × List Token) ExprFault
+
+infixl 10 ◌>>=◌
+abbrev pub ◌>>=◌ : {A B : Type 0} → Result A ExprFault → (A → Result B ExprFault) → Result B ExprFault
+(Ok x) >>= f = f x
+(Err fault) >>= f = Err fault
+
+-- a limit that is past the count of tokens that a text has
+abbrev pub too_deep : List Token → ExprFault
+too_deep ts = TooDeep (place ts)
+
+-- the parenthesis that closes the one at this place
+unfoldable pub close_at : ℕ → List Token → Result (List Token) ExprFault
+close_at opened ts = if is_close (first_kind ts) then Ok (drop 1 ts) else Err (stops_at (Some opened) ts)
+
+-- { "." step }
+unfoldable pub steps_at : ℕ → Option ℕ → Expr → List Token → Read
+steps_at zero opened a ts = Err (too_deep ts)
+steps_at (suc n) opened a ts =
+    if has_step ts then (elim (step_of a (first_kind (drop 1 ts))) as (λ found. Read) [
+      | Some b ↦ steps_at n opened b (drop 1 (drop 1 ts))
+      | None ↦ Err (fault_at opened (drop 1 ts))
+    ]) else Ok (a, ts)
+
+unfoldable mutual
+  -- operands of a level with its operators between them
+  pub level_at : ℕ → Option ℕ → Level → List Token → Read
+  level_at zero opened l ts = Err (too_deep ts)
+  level_at (suc n) opened l ts = elim (tighter l) as (λ found. Read) [
+    | Some inner ↦ level_at n opened inner ts >>= λ x. more_at n opened l inner x.0 x.1
+    | None ↦ unary_at n opened ts
+  ]
+
+  -- after an operand of the level: its operators and their other operands
+  pub more_at : ℕ → Option ℕ → Level → Level → Expr → List Token → Read
+  more_at zero opened l inner left ts = Err (too_deep ts)
+  more_at (suc n) opened l inner left ts = elim (operator_of l (first_kind ts)) as (λ found. Read) [
+    | Some op ↦ level_at n opened inner (drop 1 ts) >>= λ x. if repeats l then more_at n opened l inner (e.Binary op left x.0) x.1 else Ok (e.Binary op left x.0, x.1)
+    | None ↦ Ok (left, ts)
+  ]
+
+  pub unary_at : ℕ → Option ℕ → List Token → Read
+  unary_at zero opened ts = Err (too_deep ts)
+  unary_at (suc n) opened ts = elim (sign_of (first_kind ts)) as (λ found. Read) [
+    | Some s ↦ unary_at n opened (drop 1 ts) >>= λ x. Ok (signed s x.0, x.1)
+    | None ↦ atom_at n opened ts >>= λ x. steps_at n opened x.0 x.1
+  ]
+
+  pub atom_at : ℕ → Option ℕ → List Token → Read
+  atom_at zero opened ts = Err (too_deep ts)
+  atom_at (suc n) opened ts = elim (literal (first_kind ts)) as (λ found. Read) [
+    | Some a ↦ Ok (a, drop 1 ts)
+    | None ↦ if is_open (first_kind ts) then (level_at n (Some (place ts)) level.Or (drop 1 ts) >>= λ x. close_at (place ts) x.1 >>= λ rest. Ok (x.0, rest)) else Err (fault_at opened ts)
+  ]
+
+-- Each token takes fewer than 16 turns, so there are enough for the tokens of any text.
+unfoldable pub turns : ℕ
+turns = 4096
+
+-- the expression at the front, and the tokens after it
+unfoldable pub expr_at : List Token → Read
+expr_at ts = level_at turns None level.Or ts
+
+-- an expression and then the end
+unfoldable pub whole_of : List Token → Result Expr ExprFault
+whole_of ts = expr_at ts >>= λ x. if is_end (first_kind x.1) && length x.1 == 1 then Ok x.0 else Err (stops_at None x.1)
+
+-- the tree of a text, or its first fault
+unfoldable pub expr_of : List ℕ → Result Expr ExprFault
+expr_of text = whole_of (tokens_of text)
+
+-- What a call that reads answered, seen by `view`: what is expected, unless memory ran out.
+abbrev pub Reads : {X Y : Type 0} → (X → Y) → Result Y ExprFault → Result X ExprFault → Type 0
+Reads view expected result = MatchResult result (λ x. expected ≡ Ok (view x)) (λ fault. (fault ≡ Memory → ⊥) → expected ≡ Err fault)

@@ -1,0 +1,372 @@
+//! Reads expressions from tokens.
+
+ghost use Rattle.std.specs.Prelude.{◌≡◌, ◌==◌, ◌&&◌, length, drop, IfOk};
+ghost use Rattle.doll_expr.specs.Reading as spec;
+ghost use Rattle.doll_expr.specs.Reading.{Reads};
+ghost use Rattle.doll_expr.specs.Tokens.{is_dot};
+
+use crate::expr::{Expr, ExprFault, Op, Query};
+use crate::level::{Level, Sign, operator_of, repeats, tighter};
+use crate::memory::Memory;
+use crate::text::Name;
+use crate::token::{Mark, Token, TokenKind, Word};
+use sqlite_items::Boxed;
+use std::alloc::Global;
+
+/// More turns than the tokens of a text take, which are at most 201 with fewer than 16 turns for each.
+const TURNS: u32 = 4096;
+
+/// Reads the expression at the front of tokens, and gives the tokens after it. A `.` with `each` behind it ends an
+/// expression.
+#[tactic(auto, unfolding(crate::specs::Reading::expr_at, crate::specs::Reading::turns))]
+pub fn expr_at(alloc: Global, tokens: &[Token]) -> Result<(Expr, &[Token]), ExprFault>
+    ensures { Reads (λ x. (x.0, x.1.now)) (spec.expr_at tokens.now) result }
+{
+    operands(alloc, TURNS, None, Level::Or, tokens)
+}
+
+/// Reads an expression that is all there is before the end.
+#[tactic(auto, unfolding(crate::specs::Reading::whole_of))]
+pub fn whole_expr(alloc: Global, tokens: &[Token]) -> Result<Expr, ExprFault>
+    ensures { Reads (λ x. x) (spec.whole_of tokens.now) result }
+{
+    let (expr, rest) = expr_at(alloc, tokens)?;
+    if !is_end(rest) {
+        return Err(stops_at(None, rest));
+    }
+    Ok(expr)
+}
+
+/// The fault of a first token that can't stand where it does. `opened` is the place of the innermost parenthesis that
+/// is open.
+#[tactic(auto, unfolding(crate::specs::Reading::fault_at))]
+pub fn fault_at(opened: Option<u32>, tokens: &[Token]) -> ExprFault
+    ensures { result ≡ spec.fault_at opened tokens.now }
+{
+    let [token, ..] = tokens else {
+        return ends_early(opened, 0);
+    };
+    match &token.kind {
+        TokenKind::Fault(fault) => *fault,
+        TokenKind::End => ends_early(opened, token.at),
+        _ => ExprFault::Unexpected { at: token.at },
+    }
+}
+
+/// The fault of tokens that don't go on from the expression before them.
+#[tactic(auto, unfolding(crate::specs::Reading::stops_at))]
+pub fn stops_at(opened: Option<u32>, tokens: &[Token]) -> ExprFault
+    ensures { result ≡ spec.stops_at opened tokens.now }
+{
+    let after = rest_of(tokens);
+    if is_dot(tokens) && is_each(after) {
+        return fault_at(opened, after);
+    }
+    fault_at(opened, tokens)
+}
+
+fn ends_early(opened: Option<u32>, at: u32) -> ExprFault
+    ensures { result ≡ spec.ends_early opened at }
+{
+    match opened {
+        None => ExprFault::Unexpected { at },
+        Some(opened) => ExprFault::Unclosed { at: opened },
+    }
+}
+
+fn too_deep(tokens: &[Token]) -> ExprFault
+    ensures { result ≡ spec.too_deep tokens.now }
+{
+    ExprFault::TooDeep { at: place(tokens) }
+}
+
+#[tactic(auto, unfolding(crate::specs::Reading::level_at))]
+#[cycle(reading)]
+fn operands<'a>(
+    alloc: Global,
+    turns: u32,
+    opened: Option<u32>,
+    level: Level,
+    tokens: &'a [Token],
+) -> Result<(Expr, &'a [Token]), ExprFault>
+    ensures { Reads (λ x. (x.0, x.1.now)) (spec.level_at turns opened level tokens.now) result }
+{
+    if turns == 0 {
+        return Err(too_deep(tokens));
+    }
+    let Some(inner) = tighter(level) else {
+        return unary(alloc, turns - 1, opened, tokens);
+    };
+    let (left, rest) = operands(alloc, turns - 1, opened, inner, tokens)?;
+    more(alloc, turns - 1, opened, level, inner, left, rest)
+}
+
+#[tactic(auto, unfolding(crate::specs::Reading::more_at))]
+#[cycle(reading)]
+fn more<'a>(
+    alloc: Global,
+    turns: u32,
+    opened: Option<u32>,
+    level: Level,
+    inner: Level,
+    left: Expr,
+    tokens: &'a [Token],
+) -> Result<(Expr, &'a [Token]), ExprFault>
+    ensures { Reads (λ x. (x.0, x.1.now)) (spec.more_at turns opened level inner left tokens.now) result }
+{
+    if turns == 0 {
+        return Err(too_deep(tokens));
+    }
+    let Some(op) = operator(level, tokens) else {
+        return Ok((left, tokens));
+    };
+    let (right, rest) = operands(alloc, turns - 1, opened, inner, rest_of(tokens))?;
+    let both = binary(alloc, op, left, right)?;
+    if !repeats(level) {
+        return Ok((both, rest));
+    }
+    more(alloc, turns - 1, opened, level, inner, both, rest)
+}
+
+#[tactic(auto, unfolding(crate::specs::Reading::unary_at))]
+#[cycle(reading)]
+fn unary<'a>(
+    alloc: Global,
+    turns: u32,
+    opened: Option<u32>,
+    tokens: &'a [Token],
+) -> Result<(Expr, &'a [Token]), ExprFault>
+    ensures { Reads (λ x. (x.0, x.1.now)) (spec.unary_at turns opened tokens.now) result }
+{
+    if turns == 0 {
+        return Err(too_deep(tokens));
+    }
+    if let Some(sign) = sign(tokens) {
+        let (of, rest) = unary(alloc, turns - 1, opened, rest_of(tokens))?;
+        return Ok((signed(alloc, sign, of)?, rest));
+    }
+    let (of, rest) = atom(alloc, turns - 1, opened, tokens)?;
+    steps(alloc, turns - 1, opened, of, rest)
+}
+
+#[tactic(auto, unfolding(crate::specs::Reading::atom_at))]
+#[cycle(reading)]
+fn atom<'a>(
+    alloc: Global,
+    turns: u32,
+    opened: Option<u32>,
+    tokens: &'a [Token],
+) -> Result<(Expr, &'a [Token]), ExprFault>
+    ensures { Reads (λ x. (x.0, x.1.now)) (spec.atom_at turns opened tokens.now) result }
+{
+    if turns == 0 {
+        return Err(too_deep(tokens));
+    }
+    if let Some(expr) = literal(alloc, tokens)? {
+        return Ok((expr, rest_of(tokens)));
+    }
+    if !is_open(tokens) {
+        return Err(fault_at(opened, tokens));
+    }
+    let at = place(tokens);
+    let (inner, after) = operands(alloc, turns - 1, Some(at), Level::Or, rest_of(tokens))?;
+    let rest = close(at, after)?;
+    Ok((inner, rest))
+}
+
+#[tactic(auto, unfolding(crate::specs::Reading::close_at))]
+fn close(opened: u32, tokens: &[Token]) -> Result<&[Token], ExprFault>
+    ensures { Reads (λ x. x.now) (spec.close_at opened tokens.now) result }
+{
+    if !is_close(tokens) {
+        return Err(stops_at(Some(opened), tokens));
+    }
+    Ok(rest_of(tokens))
+}
+
+#[tactic(auto, unfolding(crate::specs::Reading::steps_at))]
+fn steps<'a>(
+    alloc: Global,
+    turns: u32,
+    opened: Option<u32>,
+    of: Expr,
+    tokens: &'a [Token],
+) -> Result<(Expr, &'a [Token]), ExprFault>
+    ensures { Reads (λ x. (x.0, x.1.now)) (spec.steps_at turns opened of tokens.now) result }
+{
+    if turns == 0 {
+        return Err(too_deep(tokens));
+    }
+    if !has_step(tokens) {
+        return Ok((of, tokens));
+    }
+    let after = rest_of(tokens);
+    let Some(made) = step(alloc, of, after)? else {
+        return Err(fault_at(opened, after));
+    };
+    steps(alloc, turns - 1, opened, made, rest_of(after))
+}
+
+fn binary(alloc: Global, op: Op, left: Expr, right: Expr) -> Result<Expr, Memory>
+    ensures { IfOk result (λ e. e ≡ Expr.Binary op left right) }
+{
+    let left = Boxed::new(alloc, left)?;
+    let right = Boxed::new(alloc, right)?;
+    Ok(Expr::Binary(op, left, right))
+}
+
+fn signed(alloc: Global, sign: Sign, of: Expr) -> Result<Expr, Memory>
+    ensures { IfOk result (λ e. e ≡ spec.signed sign of) }
+{
+    let of = Boxed::new(alloc, of)?;
+    match sign {
+        Sign::Not => Ok(Expr::Not(of)),
+        Sign::Minus => Ok(Expr::Neg(of)),
+    }
+}
+
+/// The expression that the first token is by itself.
+fn literal(alloc: Global, tokens: &[Token]) -> Result<Option<Expr>, Memory>
+    ensures { IfOk result (λ e. e ≡ spec.literal (spec.first_kind tokens.now)) }
+{
+    let [token, ..] = tokens else {
+        return Ok(None);
+    };
+    match &token.kind {
+        TokenKind::Number(value) => Ok(Some(Expr::Int(*value))),
+        TokenKind::Text(text) => Ok(Some(Expr::Text(text.copy(alloc)?))),
+        TokenKind::Name(name) => Ok(Some(Expr::Var(name.copy(alloc)?))),
+        TokenKind::Word(Word::Nil) => Ok(Some(Expr::Nil)),
+        TokenKind::Word(Word::True) => Ok(Some(Expr::True)),
+        TokenKind::Word(Word::False) => Ok(Some(Expr::False)),
+        _ => Ok(None),
+    }
+}
+
+/// What the first token, which stands after a dot, makes of the expression before the dot.
+fn step(alloc: Global, of: Expr, tokens: &[Token]) -> Result<Option<Expr>, Memory>
+    ensures { IfOk result (λ e. e ≡ spec.step_of of (spec.first_kind tokens.now)) }
+{
+    let [token, ..] = tokens else {
+        return Ok(None);
+    };
+    match &token.kind {
+        TokenKind::Name(name) => named(alloc, of, name.as_bytes()),
+        TokenKind::Ask(query) => asked(alloc, of, *query),
+        TokenKind::Word(Word::Id) => named(alloc, of, b"id"),
+        TokenKind::Word(Word::UpdatedAt) => named(alloc, of, b"updated_at"),
+        TokenKind::Word(Word::Size) => asked(alloc, of, Query::Size),
+        _ => Ok(None),
+    }
+}
+
+fn named(alloc: Global, of: Expr, name: &[u8]) -> Result<Option<Expr>, Memory>
+    ensures { IfOk result (λ e. e ≡ Some (Expr.Step of name.now)) }
+{
+    let of = Boxed::new(alloc, of)?;
+    Ok(Some(Expr::Step(of, Name::from_bytes(alloc, name)?)))
+}
+
+fn asked(alloc: Global, of: Expr, query: Query) -> Result<Option<Expr>, Memory>
+    ensures { IfOk result (λ e. e ≡ Some (Expr.Ask of query)) }
+{
+    let of = Boxed::new(alloc, of)?;
+    Ok(Some(Expr::Ask(of, query)))
+}
+
+fn place(tokens: &[Token]) -> u32
+    ensures { result ≡ spec.place tokens.now }
+{
+    match tokens {
+        [] => 0,
+        [token, ..] => token.at,
+    }
+}
+
+fn rest_of(tokens: &[Token]) -> &[Token]
+    ensures { result.now ≡ drop 1 tokens.now }
+{
+    match tokens {
+        [] => tokens,
+        [_, rest @ ..] => rest,
+    }
+}
+
+fn operator(level: Level, tokens: &[Token]) -> Option<Op>
+    ensures { result ≡ spec.operator_of level (spec.first_kind tokens.now) }
+{
+    let [token, ..] = tokens else {
+        return None;
+    };
+    match &token.kind {
+        TokenKind::Mark(mark) => operator_of(level, *mark),
+        _ => None,
+    }
+}
+
+fn sign(tokens: &[Token]) -> Option<Sign>
+    ensures { result ≡ spec.sign_of (spec.first_kind tokens.now) }
+{
+    let [token, ..] = tokens else {
+        return None;
+    };
+    match &token.kind {
+        TokenKind::Mark(Mark::Not) => Some(Sign::Not),
+        TokenKind::Mark(Mark::Minus) => Some(Sign::Minus),
+        _ => None,
+    }
+}
+
+fn is_end(tokens: &[Token]) -> bool
+    ensures { result ≡ (spec.is_end (spec.first_kind tokens.now) && length tokens.now == 1) }
+{
+    let [token] = tokens else {
+        return false;
+    };
+    matches!(&token.kind, TokenKind::End)
+}
+
+fn is_dot(tokens: &[Token]) -> bool
+    ensures { result ≡ is_dot (spec.first_kind tokens.now) }
+{
+    let [token, ..] = tokens else {
+        return false;
+    };
+    matches!(&token.kind, TokenKind::Mark(Mark::Dot))
+}
+
+fn is_each(tokens: &[Token]) -> bool
+    ensures { result ≡ spec.is_each (spec.first_kind tokens.now) }
+{
+    let [token, ..] = tokens else {
+        return false;
+    };
+    matches!(&token.kind, TokenKind::Word(Word::Each))
+}
+
+fn is_open(tokens: &[Token]) -> bool
+    ensures { result ≡ spec.is_open (spec.first_kind tokens.now) }
+{
+    let [token, ..] = tokens else {
+        return false;
+    };
+    matches!(&token.kind, TokenKind::Mark(Mark::Open))
+}
+
+fn is_close(tokens: &[Token]) -> bool
+    ensures { result ≡ spec.is_close (spec.first_kind tokens.now) }
+{
+    let [token, ..] = tokens else {
+        return false;
+    };
+    matches!(&token.kind, TokenKind::Mark(Mark::Close))
+}
+
+fn has_step(tokens: &[Token]) -> bool
+    ensures { result ≡ spec.has_step tokens.now }
+{
+    if !is_dot(tokens) {
+        return false;
+    }
+    !is_each(rest_of(tokens))
+}
