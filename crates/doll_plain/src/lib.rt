@@ -1,0 +1,4 @@
+//! Direct rendering of templates, with no cache.
+#![tactic(auto)]
+
+pub mod render;
