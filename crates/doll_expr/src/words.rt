@@ -73,13 +73,13 @@ pub fn is_lower(byte: u8) -> bool
     b'a' <= byte && byte <= b'z'
 }
 
-fn is_word_byte(byte: u8) -> bool
+pub fn is_word_byte(byte: u8) -> bool
     ensures { result ≡ spec.is_word_byte byte }
 {
     is_lower(byte) || byte.is_ascii_digit() || byte == b'_'
 }
 
-fn is_word(text: &[u8]) -> bool
+pub fn is_word(text: &[u8]) -> bool
     ensures { result ≡ spec.is_word text.now }
 {
     match text {

@@ -1,0 +1,65 @@
+-- The paths of routes, views and requests (this project's own).
+use Rattle.std.specs.Prelude.{ℕ, zero, suc, ◌+◌, ◌-◌, ◌*◌, Bool, true, false, not, ◌&&◌, ◌||◌, ◌==◌, nat_le, nat_lt, nat_eq, List, [], ◌∷◌, ◌++◌, length, take, drop, slice_index, fold, codes, Option, Some, None, if◌then◌else◌}
+use Rattle.std.specs.List.{list_all, slice_split, starts_with, ends_with, prefix_len, take_while}
+use Rattle.std.specs.Char.{is_ascii_digit}
+use Rattle.doll_expr.specs.Names.{is_word}
+
+abbrev pub is_slash : ℕ → Bool
+is_slash byte = byte == 47
+
+-- each part between slashes is a word
+abbrev pub are_words : List ℕ → Bool
+are_words path = list_all is_word (slice_split is_slash path)
+
+-- one or more segments, each a slash and a word
+abbrev pub is_literal_path : List ℕ → Bool
+is_literal_path path = slice_index path 0 == 47 && are_words (drop 1 path)
+
+-- The path before the `/:id` of a route of a record: at most 200 bytes with it.
+abbrev pub record_path : List ℕ → Option (List ℕ)
+record_path path =
+    let before = take (length path - 4) path in
+    if ends_with nat_eq path (codes "/:id") && nat_le (length path) 200 && is_literal_path before then Some before else None
+
+-- the last segment of a virtual path: a word, or a word behind an underscore
+abbrev pub is_view_name : List ℕ → Bool
+is_view_name name = is_word name || (slice_index name 0 == 95 && is_word (drop 1 name))
+
+-- how many bytes stand before the first slash, or all where there is none
+abbrev pub front_len : List ℕ → ℕ
+front_len = prefix_len (λ byte. not (is_slash byte))
+
+-- a virtual path of at most so many segments: the last segment alone, or a word, a slash and such a path of one segment less
+unfoldable pub is_view_path : ℕ → List ℕ → Bool
+is_view_path zero path = false
+is_view_path (suc more) path =
+    let end = front_len path in
+    if end == length path then is_view_name path else is_word (take end path) && is_view_path more (drop 1 (drop end path))
+
+-- A virtual path has at most eight segments.
+abbrev pub is_virtual_path : List ℕ → Bool
+is_virtual_path path = is_view_path 8 path
+
+-- the name of the file of a virtual path
+abbrev pub file_of : List ℕ → List ℕ
+file_of path = path ++ codes ".html.erb"
+
+-- the number that decimal digits say, behind a number already read
+abbrev pub digits_from : ℕ → List ℕ → ℕ
+digits_from = fold (λ number digit. 10 * number + (digit - 48))
+
+-- an id in a path: a decimal number from 1 to 4,294,967,295 without a zero before it
+abbrev pub id_of : List ℕ → Option ℕ
+id_of digits =
+    if nat_le (digits_from 0 digits) 4294967295 && not (slice_index digits 0 == 48) && nat_lt 0 (length digits) && list_all is_ascii_digit digits then Some (digits_from 0 digits) else None
+
+-- the path of a request, which ends before the first question mark
+abbrev pub path_of : List ℕ → List ℕ
+path_of target = take_while (λ byte. not (byte == 63)) target
+
+-- the id that a request names under a route of a record
+abbrev pub requested_id : List ℕ → List ℕ → Option ℕ
+requested_id route target =
+    let path = path_of target in
+    let behind = drop (length route) path in
+    if starts_with nat_eq path route && slice_index behind 0 == 47 then id_of (drop 1 behind) else None

@@ -1,0 +1,6 @@
+//! The program.
+#![tactic(auto)]
+
+mod path;
+
+fn main(_rt: HostRuntime) {}
