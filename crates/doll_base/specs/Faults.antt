@@ -1,5 +1,5 @@
 -- Counts of faults: a refusal that blames the outside is answered only where such a count rose (this project's own).
-use Rattle.std.specs.Prelude.{◌==◌, ◌+◌, ◌-◌, ◌^◌, ◌<◌, ◌≤◌, ℕ, List, Bool, Result, IsErrOf, min, if◌then◌else◌}
+use Rattle.std.specs.Prelude.{◌==◌, ◌+◌, ◌-◌, ◌^◌, ◌<◌, ◌≤◌, ℕ, List, Bool, false, ◌||◌, nat_le, Option, Some, None, Result, IsErrOf, min, if◌then◌else◌}
 use Rattle.std.specs.List.{list_any}
 
 -- The count rose, so something outside failed in between.
@@ -15,15 +15,21 @@ abbrev pub HasCause : {T E : Type 0} → E → ℕ → ℕ → Result T E → Ty
 HasCause failed before now result = IsErrOf result failed → Rose before now
 
 -- What is known of a thing in memory that is told which of its calls fail: the numbers of those calls, the number
--- of the next call and the count of faults.
+-- from which on all fail, the number of the next call and the count of faults.
 pub record Plan : Type 0 where
   pub failing : List ℕ
+  pub fuse : Option ℕ
   pub calls : ℕ
   pub faults : ℕ
 
+-- All calls fail from this number on, if any.
+abbrev pub is_blown : Option ℕ → ℕ → Bool
+is_blown None calls = false
+is_blown (Some fuse) calls = nat_le fuse calls
+
 -- The next call is one of those that fail.
 abbrev pub is_due : Plan → Bool
-is_due plan = list_any (λ number. number == plan.calls) plan.failing
+is_due plan = list_any (λ number. number == plan.calls) plan.failing || is_blown plan.fuse plan.calls
 
 -- The number that comes after this one. The last of 64 bits is given again.
 abbrev pub next_call : ℕ → ℕ
@@ -33,6 +39,7 @@ next_call calls = min (calls + 1) (2 ^ 64 - 1)
 abbrev pub after_call : Plan → Plan
 after_call plan = record {
   failing = plan.failing;
+  fuse = plan.fuse;
   calls = next_call plan.calls;
   faults = if is_due plan then plan.faults + 1 else plan.faults;
 }

@@ -42,6 +42,7 @@ impl FaultCount {
 #[derive(Drop)]
 pub struct FaultPlan {
     failing: Vec<u64>,
+    fuse: Option<u64>,
     calls: u64,
     faults: FaultCount,
 }
@@ -51,16 +52,17 @@ impl Model for FaultPlan {
 
     ghost Value = { Plan };
 
-    ghost view = { λ p. record { failing = p.failing.items; calls = p.calls; faults = p.faults } };
+    ghost view = { λ p. record { failing = p.failing.items; fuse = p.fuse; calls = p.calls; faults = p.faults } };
 }
 
 impl FaultPlan {
-    /// No call was made yet, and those with these numbers will fail.
-    pub fn new(failing: Vec<u64>) -> FaultPlan
-        ensures { result ≡ record { failing = failing.items; calls = 0; faults = 0 } }
+    /// No call was made yet. Those with these numbers will fail, and all from the number `fuse` on.
+    pub fn new(failing: Vec<u64>, fuse: Option<u64>) -> FaultPlan
+        ensures { result ≡ record { failing = failing.items; fuse = fuse; calls = 0; faults = 0 } }
     {
         FaultPlan {
             failing,
+            fuse,
             calls: 0,
             faults: FaultCount::new(),
         }
@@ -71,7 +73,11 @@ impl FaultPlan {
         ensures due { result ≡ is_due self.old }
         ensures next { self.new ≡ after_call self.old }
     {
-        let due = self.failing.contains(&self.calls);
+        let blown = match self.fuse {
+            Some(fuse) => fuse <= self.calls,
+            None => false,
+        };
+        let due = self.failing.contains(&self.calls) || blown;
         self.calls = self.calls.saturating_add(1);
         if due {
             self.faults.add();

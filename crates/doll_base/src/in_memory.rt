@@ -1,6 +1,6 @@
 //! A source, a sink and a clock in memory, which tell all that they hold and fail where they are told to.
 
-ghost use Rattle.std.specs.Prelude.{◌≡◌, ◌<◌, ◌≤◌, ◌↔◌, ◌∷◌, ◌++◌, [], length, take, min, Some, IfOk, OnOk, OnErr, IsErr, IsTrue, vec_len};
+ghost use Rattle.std.specs.Prelude.{◌≡◌, ◌<◌, ◌≤◌, ◌↔◌, ◌∷◌, ◌++◌, [], length, take, min, Some, None, IfOk, OnOk, OnErr, IsErr, IsTrue, vec_len};
 ghost use Rattle.doll_base.specs.Faults.{Rose, KeepsCount, is_due, after_call};
 ghost use Rattle.doll_base.specs.Streams.{Took, IsAtEnd, Appended};
 ghost use Rattle.doll_base.specs.Memories.{given_count};
@@ -41,13 +41,13 @@ impl MemSource {
         ensures left { ⟦<MemSource as Source>⟧.left result ≡ Some bytes.items }
         ensures faults { ⟦<MemSource as Source>⟧.faults result ≡ 0 }
         ensures piece { result.piece ≡ piece }
-        ensures plan { result.plan ≡ record { failing = failing.items; calls = 0; faults = 0 } }
+        ensures plan { result.plan ≡ record { failing = failing.items; fuse = None; calls = 0; faults = 0 } }
     {
         MemSource {
             bytes,
             at: 0,
             piece,
-            plan: FaultPlan::new(failing),
+            plan: FaultPlan::new(failing, None),
         }
     }
 }
@@ -107,12 +107,12 @@ impl MemSink {
         ensures held { ⟦<MemSink as Sink>⟧.held result ≡ Some [] }
         ensures faults { ⟦<MemSink as Sink>⟧.faults result ≡ 0 }
         ensures piece { result.piece ≡ piece }
-        ensures plan { result.plan ≡ record { failing = failing.items; calls = 0; faults = 0 } }
+        ensures plan { result.plan ≡ record { failing = failing.items; fuse = None; calls = 0; faults = 0 } }
     {
         MemSink {
             bytes: Vec::new(alloc),
             piece,
-            plan: FaultPlan::new(failing),
+            plan: FaultPlan::new(failing, None),
         }
     }
 

@@ -9,6 +9,7 @@ pub mod in_memory;
 pub mod input;
 pub mod sink;
 pub mod source;
+pub mod system;
 
 pub use clock::Clock;
 pub use doll_expr::{Bytes, Ids, Items, Memory, Name, Text};
@@ -18,3 +19,7 @@ pub use in_memory::{ListClock, MemSink, MemSource};
 pub use input::InputFault;
 pub use sink::{Sink, WriteFault, write_whole};
 pub use source::{ReadFault, Source, read_all};
+pub use system::{DirFolder, StdSink, StdSource, SysClock};
+
+#[cfg(test)]
+mod tests;

@@ -35,7 +35,8 @@ pub fn write_whole<K: Sink>(sink: &mut K, bytes: &[u8]) -> Result<(), WriteFault
 {
     let mut done = 0;
     while done < bytes.len() {
-        done += sink.write(&bytes[done..])?;
+        let count = sink.write(&bytes[done..])?;
+        done += count;
     }
     Ok(())
 }

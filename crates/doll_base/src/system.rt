@@ -1,0 +1,258 @@
+//! The trusted edge: sources, sinks, a folder and a clock over what the runtime has. They tell no content, since no
+//! contract can say what a stream, a file or a clock of the system holds.
+
+ghost use Rattle.std.specs.Prelude.{◌≡◌, ◌-◌, ◌/◌, ◌^◌, ◌≤◌, length, min, IfOk, None};
+ghost use Rattle.std.specs.Duration.{as_nanos};
+
+use crate::clock::Clock;
+use crate::faults::FaultCount;
+use crate::folder::{Folder, FolderFault};
+use crate::input::InputFault;
+use crate::sink::{Sink, WriteFault};
+use crate::source::{ReadFault, Source, read_all};
+use std::alloc::Global;
+use std::fs::OpenFile;
+use std::io::{ErrorKind, Read, Write};
+use std::path::Path;
+use std::rt::Files;
+use std::time::{Duration, SystemTime};
+use std::{fs, io, rt};
+
+/// The most bytes that are read of a file, however many are allowed.
+const LONGEST: usize = (1 << 62) - 1;
+
+/// A reader as a source. Each error but an interruption counts as a fault.
+#[derive(Drop)]
+pub struct StdSource<R> {
+    reader: R,
+    faults: FaultCount,
+}
+
+impl<R: Read> StdSource<R> {
+    pub fn new(reader: R) -> StdSource<R>
+        ensures told { ⟦<StdSource<R> as Source>⟧.left result ≡ None }
+        ensures faults { ⟦<StdSource<R> as Source>⟧.faults result ≡ 0 }
+    {
+        StdSource {
+            reader,
+            faults: FaultCount::new(),
+        }
+    }
+}
+
+impl<R: Read> Source for StdSource<R> {
+    ghost left = { λ _. None };
+
+    ghost faults = { λ s. s.faults };
+
+    fn read(&mut self, into: &mut [u8]) -> Result<usize, ReadFault> {
+        match read_again(&mut self.reader, into) {
+            Ok(count) => Ok(count),
+            Err(_) => {
+                self.faults.add();
+                Err(ReadFault)
+            }
+        }
+    }
+}
+
+/// Reads once, and again where a signal interrupted that.
+fn read_again<R: Read>(reader: &mut R, into: &mut [u8]) -> io::Result<usize>
+    ensures { IfOk result (λ n. n ≤ length into.old) }
+{
+    for _ in 0..u64::MAX {
+        match reader.read(into) {
+            Ok(count) => return Ok(count),
+            Err(error) => {
+                if error.kind() != ErrorKind::Interrupted {
+                    return Err(error);
+                }
+            }
+        }
+    }
+    Err(io::Error::from(ErrorKind::Interrupted))
+}
+
+/// A writer as a sink. Each error but an interruption counts as a fault, and so does a write that takes nothing.
+/// What was taken is flushed at once, so that nothing waits in a buffer once a whole text was written.
+#[derive(Drop)]
+pub struct StdSink<W> {
+    writer: W,
+    faults: FaultCount,
+}
+
+impl<W: Write> StdSink<W> {
+    pub fn new(writer: W) -> StdSink<W>
+        ensures told { ⟦<StdSink<W> as Sink>⟧.held result ≡ None }
+        ensures faults { ⟦<StdSink<W> as Sink>⟧.faults result ≡ 0 }
+    {
+        StdSink {
+            writer,
+            faults: FaultCount::new(),
+        }
+    }
+}
+
+impl<W: Write> Sink for StdSink<W> {
+    ghost held = { λ _. None };
+
+    ghost faults = { λ s. s.faults };
+
+    fn write(&mut self, from: &[u8]) -> Result<usize, WriteFault> {
+        if from.is_empty() {
+            return Ok(0);
+        }
+        match write_again(&mut self.writer, from) {
+            Ok(count) => {
+                if count > 0 {
+                    return Ok(count);
+                }
+            }
+            Err(_) => {}
+        }
+        self.faults.add();
+        Err(WriteFault)
+    }
+}
+
+/// Writes once and flushes, and writes again where a signal interrupted that.
+fn write_again<W: Write>(writer: &mut W, from: &[u8]) -> io::Result<usize>
+    ensures { IfOk result (λ n. n ≤ length from.now) }
+{
+    for _ in 0..u64::MAX {
+        match writer.write(from) {
+            Ok(count) => {
+                writer.flush()?;
+                return Ok(count);
+            }
+            Err(error) => {
+                if error.kind() != ErrorKind::Interrupted {
+                    return Err(error);
+                }
+            }
+        }
+    }
+    Err(io::Error::from(ErrorKind::Interrupted))
+}
+
+/// The files under a folder of the system. A name that is an absolute path stands for itself. A directory is no
+/// file, and a path that the system can't have is no file's.
+#[derive(Drop)]
+pub struct DirFolder<R> {
+    files: R,
+    folder: String,
+    faults: FaultCount,
+}
+
+impl<R: Files> DirFolder<R> {
+    /// The files under the folder with this path. The empty path is the folder that the program runs in.
+    pub fn new(files: R, folder: String) -> DirFolder<R>
+        ensures told { ⟦<DirFolder<R> as Folder>⟧.files result ≡ None }
+        ensures faults { ⟦<DirFolder<R> as Folder>⟧.faults result ≡ 0 }
+    {
+        DirFolder {
+            files,
+            folder,
+            faults: FaultCount::new(),
+        }
+    }
+}
+
+impl<R: Files> Folder for DirFolder<R> {
+    ghost files = { λ _. None };
+
+    ghost faults = { λ f. f.faults };
+
+    fn read_file(
+        &mut self,
+        alloc: Global,
+        name: &str,
+        most: usize,
+    ) -> Result<Vec<u8>, FolderFault> {
+        let path = Path::new(self.folder.as_str()).join(alloc, name)?;
+        let fault = match open_file(&self.files, path.as_path()) {
+            Ok(file) => {
+                let mut source = StdSource::new(file);
+                match read_all(alloc, &mut source, most.min(LONGEST)) {
+                    Ok(bytes) => return Ok(bytes),
+                    Err(InputFault::TooLong) => FolderFault::TooLong,
+                    Err(InputFault::Memory) => FolderFault::Memory,
+                    Err(InputFault::Failed) => FolderFault::Failed,
+                }
+            }
+            Err(fault) => fault,
+        };
+        if fault == FolderFault::Failed {
+            self.faults.add();
+        }
+        Err(fault)
+    }
+}
+
+/// Opens a file to read it.
+fn open_file<R: Files>(files: &R, path: Path<'_>) -> Result<R::File, FolderFault> {
+    match fs::open(files, path) {
+        Ok(file) => match file.metadata() {
+            Ok(metadata) => {
+                if metadata.is_dir() {
+                    return Err(FolderFault::Missing);
+                }
+                Ok(file)
+            }
+            Err(_) => Err(FolderFault::Failed),
+        },
+        Err(error) => Err(fault_of(error.kind())),
+    }
+}
+
+/// What the runtime's answer says of the file.
+fn fault_of(kind: ErrorKind) -> FolderFault {
+    match kind {
+        ErrorKind::NotFound
+        | ErrorKind::NotADirectory
+        | ErrorKind::IsADirectory
+        | ErrorKind::InvalidInput
+        | ErrorKind::InvalidFilename => FolderFault::Missing,
+        ErrorKind::OutOfMemory => FolderFault::Memory,
+        _ => FolderFault::Failed,
+    }
+}
+
+/// The clock of the system.
+#[derive(Drop)]
+pub struct SysClock<R> {
+    clock: R,
+}
+
+impl<R: rt::Clock> SysClock<R> {
+    pub fn new(clock: R) -> SysClock<R>
+        ensures { ⟦<SysClock<R> as Clock>⟧.readings result ≡ None }
+    {
+        SysClock { clock }
+    }
+}
+
+impl<R: rt::Clock> Clock for SysClock<R> {
+    ghost readings = { λ _. None };
+
+    /// The microseconds since 1970 began, or 0 where the clock can't be read.
+    fn now(&mut self) -> u64 {
+        match SystemTime::now(&self.clock) {
+            Ok(time) => match time.duration_since(SystemTime::UNIX_EPOCH) {
+                Ok(duration) => micros_of(duration),
+                Err(_) => 0,
+            },
+            Err(_) => 0,
+        }
+    }
+}
+
+/// The whole microseconds of a duration, as many as fit.
+fn micros_of(duration: Duration) -> u64
+    ensures { result ≡ min (as_nanos duration / 1000) (2 ^ 64 - 1) }
+{
+    duration
+        .as_secs()
+        .saturating_mul(1_000_000)
+        .saturating_add(u64::from(duration.subsec_micros()))
+}
