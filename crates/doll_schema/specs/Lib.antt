@@ -1,3 +1,7 @@
+pub mod Drafts
 pub mod Escape
 pub mod Json
+pub mod Limits
 pub mod Names
+pub mod Schemas
+pub mod Steps

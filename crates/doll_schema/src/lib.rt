@@ -1,13 +1,18 @@
 //! Models, their attributes and associations, and the values of their records.
 #![tactic(auto)]
 
+pub mod draft;
+pub mod drafting;
 pub mod escaping;
+pub mod fault;
 pub mod json;
+pub mod linking;
 pub mod model;
 pub mod names;
 pub mod value;
 
 pub use escaping::{escape, escape_bytes};
+pub use fault::{Part, Place, SchemaFault};
 pub use model::{
     Attribute, Attributes, BelongsTo, HasMany, Kind, Manys, Model, Models, Parents, Schema,
 };

@@ -1,7 +1,13 @@
 //! The models of a site: what its records hold and how they belong together.
 
 ghost use Rattle.std.specs.Prelude.{◌≡◌, IfOk};
+ghost use Rattle.serde_json.specs.View.{view};
+ghost use Rattle.doll_expr.specs.Gives.{Gives};
+ghost use Rattle.doll_schema.specs.Schemas.{schema_of};
 
+use crate::drafting::drafts_of;
+use crate::fault::SchemaFault;
+use crate::linking::linked;
 use doll_expr::{Copied, Items, Memory, Name, copy_list};
 use std::alloc::Global;
 
@@ -69,6 +75,18 @@ pub type Models = Items<Model>;
 #[derive(Debug, Drop)]
 pub struct Schema {
     pub models: Models,
+}
+
+impl Schema {
+    /// The schema that the JSON value is, or its first fault: first each model's own, in the order of the models and of
+    /// `Part`, then those of what they refer to.
+    pub fn read(alloc: Global, json: &serde_json::Value) -> Result<Schema, SchemaFault>
+        ensures { Gives SchemaFault.Memory (schema_of (view json.now)) result }
+    {
+        let drafts = drafts_of(alloc, json)?;
+        let models = linked(alloc, drafts.as_slice())?;
+        Ok(Schema { models })
+    }
 }
 
 impl Copied for Attribute {
