@@ -1,9 +1,10 @@
-//! The value of an expression.
+//! The value of an expression, and the parts of a record that an expression may name.
 #![tactic(auto)]
 
+pub mod eval;
 pub mod member;
 pub mod operate;
 mod step;
 
 pub use member::Member;
-pub use operate::is_true;
+pub use operate::{is_true, nil};

@@ -102,7 +102,9 @@ fn parent_at(parents: &[BelongsTo], name: &[u8]) -> Option<usize>
 fn key_at(parents: &[BelongsTo], name: &[u8]) -> Option<usize>
     ensures { result ≡ position (λ (b : BelongsTo). bytes_eq (key_name b.name) name.now) parents.now }
 {
-    parents.iter().position(|b| is_key_of(b.name.as_bytes(), name))
+    parents
+        .iter()
+        .position(|b| is_key_of(b.name.as_bytes(), name))
 }
 
 fn children_at(manys: &[HasMany], name: &[u8]) -> Option<usize>

@@ -1,8 +1,10 @@
 //! What operators and questions give.
 
-ghost use Rattle.std.specs.Prelude.{◌≡◌, ◌++◌, pos, false, IfOk};
+ghost use Rattle.std.specs.Prelude.{◌≡◌, ◌++◌, not, pos, false, IfOk};
 ghost use Rattle.std.specs.Option.{option_map_or};
 ghost use Rattle.std.specs.Ordering.{is_lt, is_le, is_gt, is_ge};
+ghost use Rattle.doll_table.specs.Tables.{TableMap};
+ghost use Rattle.doll_eval.specs.Living.{IsLiving};
 ghost use Rattle.doll_eval.specs.Operations as of;
 
 use doll_expr::{Memory, Op, Query, Text};
@@ -11,20 +13,20 @@ use std::alloc::Global;
 use std::cmp::Ordering;
 
 /// The answer to a question.
-pub fn ask(query: Query, value: &Val) -> Val
-    ensures { result ≡ of.asked query value.now }
+pub fn ask(query: Query, value: Val) -> Val
+    ensures { result ≡ of.asked query value }
 {
     match query {
-        Query::Size => size(value),
-        Query::Empty => match size_of(value) {
+        Query::Size => size(&value),
+        Query::Empty => match size_of(&value) {
             Some(n) => truth(n == 0),
             None => nil(),
         },
-        Query::Any => match size_of(value) {
+        Query::Any => match size_of(&value) {
             Some(n) => truth(n != 0),
             None => nil(),
         },
-        Query::IsNil => truth(is_nil(value)),
+        Query::IsNil => truth(is_nil(&value)),
     }
 }
 
@@ -41,8 +43,8 @@ pub fn is_true(value: &Val) -> bool
 
 /// The number with its sign changed.
 #[tactic(auto, using(crate::proofs::Parts::whole_fits))]
-pub fn negate(value: &Val) -> Val
-    ensures { result ≡ of.negated value.now }
+pub fn negate(value: Val) -> Val
+    ensures { result ≡ of.negated value }
 {
     match value {
         Val::Plain(Value::Int(n)) => whole(n.checked_neg()),
@@ -62,21 +64,29 @@ pub fn is_settled(op: Op, left: &Val) -> bool
 }
 
 /// What an operator gives of both sides.
-pub fn operate(alloc: Global, op: Op, left: &Val, right: Val) -> Result<Val, Memory>
-    ensures { IfOk result (λ v. v ≡ of.operated op left.now right) }
+pub fn operate(alloc: Global, op: Op, left: Val, right: Val) -> Result<Val, Memory>
+    ensures value { IfOk result (λ v. v ≡ of.operated op left right) }
+    ensures living { (table : TableMap) → IsLiving table right → IfOk result (λ v. IsLiving table v) }
 {
     match op {
         Op::Or | Op::And => Ok(right),
-        Op::Eq => Ok(truth(same(left, &right))),
-        Op::Ne => Ok(truth(!same(left, &right))),
-        Op::Lt => Ok(truth(is_below(left, &right))),
-        Op::Le => Ok(truth(is_at_most(left, &right))),
-        Op::Gt => Ok(truth(is_above(left, &right))),
-        Op::Ge => Ok(truth(is_at_least(left, &right))),
-        Op::Add => add(alloc, left, &right),
-        Op::Sub => Ok(subtract(left, &right)),
-        Op::Mul => Ok(multiply(left, &right)),
+        Op::Eq => Ok(truth(same(&left, &right))),
+        Op::Ne => Ok(truth(!same(&left, &right))),
+        Op::Lt => Ok(truth(is_below(&left, &right))),
+        Op::Le => Ok(truth(is_at_most(&left, &right))),
+        Op::Gt => Ok(truth(is_above(&left, &right))),
+        Op::Ge => Ok(truth(is_at_least(&left, &right))),
+        Op::Add => add(alloc, &left, &right),
+        Op::Sub => Ok(subtract(&left, &right)),
+        Op::Mul => Ok(multiply(&left, &right)),
     }
+}
+
+/// Whether a value is nil or false.
+pub fn not(value: Val) -> Val
+    ensures { result ≡ of.truth (not (of.is_true value)) }
+{
+    truth(!is_true(&value))
 }
 
 pub fn nil() -> Val
@@ -85,7 +95,7 @@ pub fn nil() -> Val
     Val::Plain(Value::Nil)
 }
 
-fn truth(held: bool) -> Val
+pub fn truth(held: bool) -> Val
     ensures { result ≡ of.truth held }
 {
     Val::Plain(Value::Bool(held))

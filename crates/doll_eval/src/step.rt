@@ -5,16 +5,155 @@ ghost use Rattle.std.specs.Option.{option_map_or};
 ghost use Rattle.doll_schema.specs.declared.value.Row.{Row};
 ghost use Rattle.doll_schema.specs.declared.value.Value.{Value};
 ghost use Rattle.doll_table.specs.Tables.{row_of, parent_of, many_of, children_of};
+ghost use Rattle.doll_schema.specs.declared.model.BelongsTo.{BelongsTo};
+ghost use Rattle.doll_schema.specs.declared.model.HasMany.{HasMany};
+ghost use Rattle.doll_table.specs.Fits.{Fits};
+ghost use Rattle.doll_eval.specs.Living.{IsLiving};
+ghost use Rattle.doll_eval.specs.Values;
+ghost use Rattle.doll_eval.specs.Values.{step_looks};
 ghost use Rattle.doll_eval.specs.Operations.{nil, whole};
 
+use crate::member::Member;
 use crate::operate::{nil, whole_from};
-use doll_expr::{Copied, Ids, Memory};
-use doll_schema::{Val, Value};
+use doll_expr::{Copied, Ids, Memory, Name};
+use doll_schema::{Model, Schema, Val, Value};
 use doll_table::{Assoc, Rows};
 use std::alloc::Global;
 
+/// What a name gives at a value: a part of a record, nil at all else.
+pub fn step<R: Rows>(
+    alloc: Global,
+    from: Val,
+    name: &Name,
+    schema: &Schema,
+    rows: &mut R,
+) -> Result<Val, Memory>
+    requires fits { Fits schema.now (R.table rows.old) }
+    requires living { IsLiving (R.table rows.old) from }
+    ensures value { IfOk result (λ v. v ≡ Values.step schema.now (R.table rows.old) from name.now) }
+    ensures living { IfOk result (λ v. IsLiving (R.table rows.old) v) }
+    ensures table { R.table rows.new ≡ R.table rows.old }
+    ensures looks { R.looks rows.new ≤ R.looks rows.old + step_looks schema.now from name.now }
+{
+    step_from(alloc, &from, name, schema, rows)
+}
+
+fn step_from<R: Rows>(
+    alloc: Global,
+    from: &Val,
+    name: &Name,
+    schema: &Schema,
+    rows: &mut R,
+) -> Result<Val, Memory>
+    requires fits { Fits schema.now (R.table rows.old) }
+    requires living { IsLiving (R.table rows.old) from.now }
+    ensures value { IfOk result (λ v. v ≡ Values.step schema.now (R.table rows.old) from.now name.now) }
+    ensures living { IfOk result (λ v. IsLiving (R.table rows.old) v) }
+    ensures table { R.table rows.new ≡ R.table rows.old }
+    ensures looks { R.looks rows.new ≤ R.looks rows.old + step_looks schema.now from.now name.now }
+{
+    match from {
+        Val::Record { model, id } => record_step(alloc, *model, *id, name, schema, rows),
+        _ => Ok(nil()),
+    }
+}
+
+fn record_step<R: Rows>(
+    alloc: Global,
+    model: u16,
+    id: u32,
+    name: &Name,
+    schema: &Schema,
+    rows: &mut R,
+) -> Result<Val, Memory>
+    requires fits { Fits schema.now (R.table rows.old) }
+    requires living { IsSome (row_of (R.table rows.old) model id) }
+    ensures value { IfOk result (λ v. v ≡ Values.record_step schema.now (R.table rows.old) model id name.now) }
+    ensures table { R.table rows.new ≡ R.table rows.old }
+    ensures looks { R.looks rows.new ≤ R.looks rows.old + step_looks schema.now (Val.Record model id) name.now }
+{
+    let Some(of) = schema.models.get(model as usize) else {
+        return Ok(nil());
+    };
+    match Member::of(of, name.as_bytes()) {
+        Member::Attribute(at) => attribute(rows, alloc, model, id, at),
+        Member::Key(at) => Ok(number_or_nil(key(rows, model, id, at))),
+        Member::Id => Ok(Val::Plain(Value::Int(i64::from(id)))),
+        Member::UpdatedAt => Ok(updated_at(rows, model, id)),
+        Member::Parent(at) => Ok(parent(rows, of, model, id, at)),
+        Member::Children(at) => children_list(
+            rows,
+            alloc,
+            of,
+            Assoc {
+                model,
+                has_many: at,
+            },
+            id,
+        ),
+        Member::Unknown => Ok(nil()),
+    }
+}
+
+fn number_or_nil(number: Option<u32>) -> Val
+    ensures { result ≡ option_map_or (λ key. Val.Plain (Value.Int (pos key))) number nil }
+{
+    match number {
+        Some(number) => Val::Plain(Value::Int(i64::from(number))),
+        None => nil(),
+    }
+}
+
+/// The parent of a record.
+fn parent<R: Rows>(rows: &mut R, of: &Model, model: u16, id: u32, at: usize) -> Val
+    requires { model < length (R.table rows.old).schema.models }
+    ensures value { result ≡ option_map_or (λ (b : BelongsTo). option_map_or (λ (row : Row). option_map_or (λ key. Val.Record b.model key) (parent_of row at) nil) (row_of (R.table rows.old) model id) nil) (slice_get of.now.belongs_to at) nil }
+    ensures table { R.table rows.new ≡ R.table rows.old }
+    ensures looks { R.looks rows.new ≤ R.looks rows.old + 1 }
+{
+    let Some(parent) = of.belongs_to.get(at) else {
+        return nil();
+    };
+    match key(rows, model, id, at) {
+        Some(id) => Val::Record {
+            model: parent.model,
+            id,
+        },
+        None => nil(),
+    }
+}
+
+/// The children of a record.
+fn children_list<R: Rows>(
+    rows: &mut R,
+    alloc: Global,
+    of: &Model,
+    assoc: Assoc,
+    id: u32,
+) -> Result<Val, Memory>
+    requires { slice_get (R.table rows.old).schema.models assoc.model ≡ Some of.now }
+    ensures value { IfOk result (λ v. v ≡ option_map_or (λ (many : HasMany). Val.List many.model (children_of (R.table rows.old) assoc.model assoc.has_many id)) (slice_get of.now.has_many assoc.has_many) nil) }
+    ensures table { R.table rows.new ≡ R.table rows.old }
+    ensures looks { R.looks rows.new ≤ R.looks rows.old + 1 }
+{
+    let Some(many) = of.has_many.get(assoc.has_many as usize) else {
+        return Ok(nil());
+    };
+    let ids = children(rows, alloc, assoc, id)?;
+    Ok(Val::List {
+        model: many.model,
+        ids,
+    })
+}
+
 /// An attribute of a record.
-fn attribute<R: Rows>(rows: &mut R, alloc: Global, model: u16, id: u32, at: usize) -> Result<Val, Memory>
+fn attribute<R: Rows>(
+    rows: &mut R,
+    alloc: Global,
+    model: u16,
+    id: u32,
+    at: usize,
+) -> Result<Val, Memory>
     requires { model < length (R.table rows.old).schema.models }
     ensures value { IfOk result (λ v. v ≡ option_map_or (λ (row : Row). option_map_or Val.Plain (slice_get row.values at) nil) (row_of (R.table rows.old) model id) nil) }
     ensures table { R.table rows.new ≡ R.table rows.old }
