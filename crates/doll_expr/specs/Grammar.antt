@@ -1,5 +1,5 @@
 -- The grammar of expressions, a rule a case. It is this project's own, after Ruby's operators.
-use Rattle.std.specs.Prelude.{◌≡◌, ℕ, ℤ, List, [], ◌∷◌, ◌++◌, codes}
+use Rattle.std.specs.Prelude.{◌≡◌, ℕ, ℤ, Bool, true, false, not, List, [], ◌∷◌, ◌++◌, codes}
 use Rattle.doll_expr.specs.declared.expr.Expr.{Expr}
 use Rattle.doll_expr.specs.declared.expr.Expr.TheVariants as e
 use Rattle.doll_expr.specs.declared.expr.Query.{Query}
@@ -10,6 +10,7 @@ use Rattle.doll_expr.specs.declared.token.Mark.TheVariants as mark
 use Rattle.doll_expr.specs.declared.token.Word.{Word}
 use Rattle.doll_expr.specs.declared.token.Word.TheVariants as word
 use Rattle.doll_expr.specs.declared.token.Token.{Token}
+use Rattle.doll_expr.specs.declared.token.TokenKind.{TokenKind}
 use Rattle.doll_expr.specs.declared.token.TokenKind.TheVariants as kind
 use Rattle.doll_expr.specs.Tokens.{token, tokens_of}
 
@@ -76,9 +77,50 @@ pub data Sentence : Rule → List Token → Expr → Type 0 where
   atom_name : (name : List ℕ) (at : ℕ) → Sentence atom (token (kind.Name name) at ∷ []) (e.Var name)
   atom_parentheses : (ts : List Token) (a : Expr) (opened closed : ℕ) → Sentence expr ts a → Sentence atom (mark_at mark.Open opened ∷ ts ++ mark_at mark.Close closed ∷ []) a
 
--- The text is an expression with this tree: its tokens are a sentence, and then it ends.
+-- These tokens are an expression with this tree, and then the end.
+abbrev pub AreExpr : List Token → Expr → Type 0
+AreExpr tokens a = (ts : List Token) × (at : ℕ) × (tokens ≡ ts ++ token kind.End at ∷ []) × Sentence expr ts a
+
+-- The text is an expression with this tree.
 abbrev pub IsExpr : List ℕ → Expr → Type 0
-IsExpr text a = (ts : List Token) × (at : ℕ) × (tokens_of text ≡ ts ++ token kind.End at ∷ []) × Sentence expr ts a
+IsExpr text a = AreExpr (tokens_of text) a
+
+-- An expression with this tree stands at the front, before the rest.
+abbrev pub BeginsExpr : List Token → Expr → List Token → Type 0
+BeginsExpr tokens a rest = (ts : List Token) × (tokens ≡ ts ++ rest) × Sentence expr ts a
+
+-- the marks between two operands
+abbrev pub is_operator : Mark → Bool
+is_operator mark.Or = true
+is_operator mark.And = true
+is_operator mark.Equal = true
+is_operator mark.NotEqual = true
+is_operator mark.Less = true
+is_operator mark.LessOrEqual = true
+is_operator mark.Greater = true
+is_operator mark.GreaterOrEqual = true
+is_operator mark.Plus = true
+is_operator mark.Minus = true
+is_operator mark.Times = true
+is_operator _ = false
+
+abbrev pub is_each : TokenKind → Bool
+is_each (kind.Word word.Each) = true
+is_each _ = false
+
+abbrev pub begins_each : List Token → Bool
+begins_each [] = false
+begins_each (t ∷ rest) = is_each t.kind
+
+abbrev pub ends_before : TokenKind → List Token → Bool
+ends_before (kind.Mark mark.Dot) rest = begins_each rest
+ends_before (kind.Mark m) rest = not (is_operator m)
+ends_before k rest = true
+
+-- No expression goes on with these tokens: neither with an operator nor with a step. A dot before `each` is no step.
+abbrev pub ends_expr : List Token → Bool
+ends_expr [] = true
+ends_expr (t ∷ rest) = ends_before t.kind rest
 
 -- No text has two trees.
 abbrev pub OneTree : Type 0

@@ -1,5 +1,6 @@
 -- Reading an expression from the left, with the first fault that is met. The grammar is in Grammar; this says which fault comes, and where.
 use Rattle.std.specs.Prelude.{◌≡◌, ℕ, zero, suc, Bool, true, false, not, ◌&&◌, ◌==◌, List, [], ◌∷◌, length, drop, Option, Some, None, Result, Ok, Err, MatchResult, if◌then◌else◌, codes}
+use Rattle.std.specs.Borrow.{Bor}
 use Rattle.doll_expr.specs.declared.expr.Expr.{Expr}
 use Rattle.doll_expr.specs.declared.expr.Expr.TheVariants as e
 use Rattle.doll_expr.specs.declared.expr.ExprFault.{ExprFault}
@@ -19,6 +20,7 @@ use Rattle.doll_expr.specs.declared.token.Token.{Token}
 use Rattle.doll_expr.specs.declared.token.TokenKind.{TokenKind}
 use Rattle.doll_expr.specs.declared.token.TokenKind.TheVariants as kind
 use Rattle.doll_expr.specs.Tokens.{is_dot, tokens_of}
+use Rattle.doll_expr.specs.Grammar.{is_each}
 
 -- ---- the levels of operators, and the operators of each
 
@@ -93,10 +95,6 @@ step_of a (kind.Ask q) = Some (e.Ask a q)
 step_of a (kind.Word w) = step_by a w
 step_of a _ = None
 
-abbrev pub is_each : TokenKind → Bool
-is_each (kind.Word word.Each) = true
-is_each _ = false
-
 abbrev pub is_open : TokenKind → Bool
 is_open (kind.Mark mark.Open) = true
 is_open _ = false
@@ -152,6 +150,10 @@ abbrev pub ◌>>=◌ : {A B : Type 0} → Result A ExprFault → (A → Result B
 (Ok x) >>= f = f x
 (Err fault) >>= f = Err fault
 
+abbrev pub if_some : {A B : Type 0} → Option A → (A → B) → B → B
+if_some (Some a) f other = f a
+if_some None f other = other
+
 -- a limit that is past the count of tokens that a text has
 abbrev pub too_deep : List Token → ExprFault
 too_deep ts = TooDeep (place ts)
@@ -164,41 +166,32 @@ close_at opened ts = if is_close (first_kind ts) then Ok (drop 1 ts) else Err (s
 unfoldable pub steps_at : ℕ → Option ℕ → Expr → List Token → Read
 steps_at zero opened a ts = Err (too_deep ts)
 steps_at (suc n) opened a ts =
-    if has_step ts then (elim (step_of a (first_kind (drop 1 ts))) as (λ found. Read) [
-      | Some b ↦ steps_at n opened b (drop 1 (drop 1 ts))
-      | None ↦ Err (fault_at opened (drop 1 ts))
-    ]) else Ok (a, ts)
+    if has_step ts then if_some (step_of a (first_kind (drop 1 ts))) (λ b. steps_at n opened b (drop 1 (drop 1 ts))) (Err (fault_at opened (drop 1 ts))) else Ok (a, ts)
 
 unfoldable mutual
   -- operands of a level with its operators between them
   pub level_at : ℕ → Option ℕ → Level → List Token → Read
   level_at zero opened l ts = Err (too_deep ts)
-  level_at (suc n) opened l ts = elim (tighter l) as (λ found. Read) [
-    | Some inner ↦ level_at n opened inner ts >>= λ x. more_at n opened l inner x.0 x.1
-    | None ↦ unary_at n opened ts
-  ]
+  level_at (suc n) opened l ts = if_some (tighter l) (λ inner. level_at n opened inner ts >>= λ x. more_at n opened l inner x.0 x.1) (unary_at n opened ts)
 
   -- after an operand of the level: its operators and their other operands
   pub more_at : ℕ → Option ℕ → Level → Level → Expr → List Token → Read
   more_at zero opened l inner left ts = Err (too_deep ts)
-  more_at (suc n) opened l inner left ts = elim (operator_of l (first_kind ts)) as (λ found. Read) [
-    | Some op ↦ level_at n opened inner (drop 1 ts) >>= λ x. if repeats l then more_at n opened l inner (e.Binary op left x.0) x.1 else Ok (e.Binary op left x.0, x.1)
-    | None ↦ Ok (left, ts)
-  ]
+  more_at (suc n) opened l inner left ts = if_some (operator_of l (first_kind ts))
+      (λ o. level_at n opened inner (drop 1 ts) >>= λ x. if repeats l then more_at n opened l inner (e.Binary o left x.0) x.1 else Ok (e.Binary o left x.0, x.1))
+      (Ok (left, ts))
 
   pub unary_at : ℕ → Option ℕ → List Token → Read
   unary_at zero opened ts = Err (too_deep ts)
-  unary_at (suc n) opened ts = elim (sign_of (first_kind ts)) as (λ found. Read) [
-    | Some s ↦ unary_at n opened (drop 1 ts) >>= λ x. Ok (signed s x.0, x.1)
-    | None ↦ atom_at n opened ts >>= λ x. steps_at n opened x.0 x.1
-  ]
+  unary_at (suc n) opened ts = if_some (sign_of (first_kind ts))
+      (λ s. unary_at n opened (drop 1 ts) >>= λ x. Ok (signed s x.0, x.1))
+      (atom_at n opened ts >>= λ x. steps_at n opened x.0 x.1)
 
   pub atom_at : ℕ → Option ℕ → List Token → Read
   atom_at zero opened ts = Err (too_deep ts)
-  atom_at (suc n) opened ts = elim (literal (first_kind ts)) as (λ found. Read) [
-    | Some a ↦ Ok (a, drop 1 ts)
-    | None ↦ if is_open (first_kind ts) then (level_at n (Some (place ts)) level.Or (drop 1 ts) >>= λ x. close_at (place ts) x.1 >>= λ rest. Ok (x.0, rest)) else Err (fault_at opened ts)
-  ]
+  atom_at (suc n) opened ts = if_some (literal (first_kind ts))
+      (λ a. Ok (a, drop 1 ts))
+      (if is_open (first_kind ts) then (level_at n (Some (place ts)) level.Or (drop 1 ts) >>= λ x. close_at (place ts) x.1 >>= λ rest. Ok (x.0, rest)) else Err (fault_at opened ts))
 
 -- Each token takes fewer than 16 turns, so there are enough for the tokens of any text.
 unfoldable pub turns : ℕ
@@ -216,6 +209,10 @@ whole_of ts = expr_at ts >>= λ x. if is_end (first_kind x.1) && length x.1 == 1
 unfoldable pub expr_of : List ℕ → Result Expr ExprFault
 expr_of text = whole_of (tokens_of text)
 
--- What a call that reads answered, seen by `view`: what is expected, unless memory ran out.
-abbrev pub Reads : {X Y : Type 0} → (X → Y) → Result Y ExprFault → Result X ExprFault → Type 0
-Reads view expected result = MatchResult result (λ x. expected ≡ Ok (view x)) (λ fault. (fault ≡ Memory → ⊥) → expected ≡ Err fault)
+-- What a call answered, seen by `view`: what is expected, unless memory ran out.
+abbrev pub GivesBy : {X Y : Type 0} → (X → Y) → Result Y ExprFault → Result X ExprFault → Type 0
+GivesBy view expected result = MatchResult result (λ x. expected ≡ Ok (view x)) (λ fault. (fault ≡ Memory → ⊥) → expected ≡ Err fault)
+
+-- The same of a tree and the tokens after it.
+abbrev pub Reads : Read → Result (Expr × Bor (List Token)) ExprFault → Type 0
+Reads expected result = GivesBy (λ x. (x.0, x.1.now)) expected result

@@ -24,3 +24,6 @@ pub use sqlite_items::{Boxed, Items};
 pub use text::{Bytes, Ids, Name, Text};
 pub use token::{Mark, Token, TokenKind, Word};
 pub use words::is_name;
+
+#[cfg(test)]
+mod tests;

@@ -1,8 +1,13 @@
 //! Reads expressions from tokens.
 
-ghost use Rattle.std.specs.Prelude.{◌≡◌, ◌==◌, ◌&&◌, length, drop, IfOk};
+ghost use Rattle.std.specs.Prelude.{◌≡◌, ◌≤◌, ◌==◌, ◌&&◌, true, List, ◌++◌, length, drop, Ok, IfOk};
+ghost use Rattle.doll_expr.specs.declared.expr.Expr.{Expr};
+ghost use Rattle.doll_expr.specs.declared.token.Token.{Token};
+ghost use Rattle.doll_expr.specs.Gives.{Gives};
+ghost use Rattle.doll_expr.specs.Grammar as grammar;
+ghost use Rattle.doll_expr.specs.Grammar.{AreExpr, BeginsExpr, Sentence, ends_expr, is_each};
 ghost use Rattle.doll_expr.specs.Reading as spec;
-ghost use Rattle.doll_expr.specs.Reading.{Reads};
+ghost use Rattle.doll_expr.specs.Reading.{GivesBy, Reads};
 ghost use Rattle.doll_expr.specs.Tokens.{is_dot};
 
 use crate::expr::{Expr, ExprFault, Op, Query};
@@ -18,19 +23,37 @@ const TURNS: u32 = 4096;
 
 /// Reads the expression at the front of tokens, and gives the tokens after it. A `.` with `each` behind it ends an
 /// expression.
-#[tactic(auto, unfolding(crate::specs::Reading::expr_at, crate::specs::Reading::turns))]
 pub fn expr_at(alloc: Global, tokens: &[Token]) -> Result<(Expr, &[Token]), ExprFault>
-    ensures { Reads (λ x. (x.0, x.1.now)) (spec.expr_at tokens.now) result }
+    // What is read is a sentence of the grammar, and the rest stands behind it.
+    ensures found { IfOk result (λ x. BeginsExpr tokens.now x.0 x.1.now) }
+    // A sentence with which the expression ends is read, unless memory runs out.
+    ensures only { (ts rest : List Token) (e : Expr) → tokens.now ≡ ts ++ rest → Sentence grammar.expr ts e → length ts ≤ 200 → ends_expr rest ≡ true → Reads (Ok (e, rest)) result }
+    ensures exact { Reads (spec.expr_at tokens.now) result }
+{
+    read_front(alloc, tokens)
+}
+
+/// Reads an expression that is all there is before the end.
+pub fn whole_expr(alloc: Global, tokens: &[Token]) -> Result<Expr, ExprFault>
+    ensures found { IfOk result (λ e. AreExpr tokens.now e) }
+    ensures only { (e : Expr) → length tokens.now ≤ 201 → AreExpr tokens.now e → Gives ExprFault.Memory (Ok e) result }
+    ensures exact { Gives ExprFault.Memory (spec.whole_of tokens.now) result }
+{
+    read_whole(alloc, tokens)
+}
+
+#[tactic(auto, unfolding(crate::specs::Reading::expr_at, crate::specs::Reading::turns))]
+fn read_front(alloc: Global, tokens: &[Token]) -> Result<(Expr, &[Token]), ExprFault>
+    ensures { Reads (spec.expr_at tokens.now) result }
 {
     operands(alloc, TURNS, None, Level::Or, tokens)
 }
 
-/// Reads an expression that is all there is before the end.
 #[tactic(auto, unfolding(crate::specs::Reading::whole_of))]
-pub fn whole_expr(alloc: Global, tokens: &[Token]) -> Result<Expr, ExprFault>
-    ensures { Reads (λ x. x) (spec.whole_of tokens.now) result }
+fn read_whole(alloc: Global, tokens: &[Token]) -> Result<Expr, ExprFault>
+    ensures { Gives ExprFault.Memory (spec.whole_of tokens.now) result }
 {
-    let (expr, rest) = expr_at(alloc, tokens)?;
+    let (expr, rest) = read_front(alloc, tokens)?;
     if !is_end(rest) {
         return Err(stops_at(None, rest));
     }
@@ -89,7 +112,7 @@ fn operands<'a>(
     level: Level,
     tokens: &'a [Token],
 ) -> Result<(Expr, &'a [Token]), ExprFault>
-    ensures { Reads (λ x. (x.0, x.1.now)) (spec.level_at turns opened level tokens.now) result }
+    ensures { Reads (spec.level_at turns opened level tokens.now) result }
 {
     if turns == 0 {
         return Err(too_deep(tokens));
@@ -112,7 +135,7 @@ fn more<'a>(
     left: Expr,
     tokens: &'a [Token],
 ) -> Result<(Expr, &'a [Token]), ExprFault>
-    ensures { Reads (λ x. (x.0, x.1.now)) (spec.more_at turns opened level inner left tokens.now) result }
+    ensures { Reads (spec.more_at turns opened level inner left tokens.now) result }
 {
     if turns == 0 {
         return Err(too_deep(tokens));
@@ -136,7 +159,7 @@ fn unary<'a>(
     opened: Option<u32>,
     tokens: &'a [Token],
 ) -> Result<(Expr, &'a [Token]), ExprFault>
-    ensures { Reads (λ x. (x.0, x.1.now)) (spec.unary_at turns opened tokens.now) result }
+    ensures { Reads (spec.unary_at turns opened tokens.now) result }
 {
     if turns == 0 {
         return Err(too_deep(tokens));
@@ -157,7 +180,7 @@ fn atom<'a>(
     opened: Option<u32>,
     tokens: &'a [Token],
 ) -> Result<(Expr, &'a [Token]), ExprFault>
-    ensures { Reads (λ x. (x.0, x.1.now)) (spec.atom_at turns opened tokens.now) result }
+    ensures { Reads (spec.atom_at turns opened tokens.now) result }
 {
     if turns == 0 {
         return Err(too_deep(tokens));
@@ -176,7 +199,7 @@ fn atom<'a>(
 
 #[tactic(auto, unfolding(crate::specs::Reading::close_at))]
 fn close(opened: u32, tokens: &[Token]) -> Result<&[Token], ExprFault>
-    ensures { Reads (λ x. x.now) (spec.close_at opened tokens.now) result }
+    ensures { GivesBy (λ x. x.now) (spec.close_at opened tokens.now) result }
 {
     if !is_close(tokens) {
         return Err(stops_at(Some(opened), tokens));
@@ -192,7 +215,7 @@ fn steps<'a>(
     of: Expr,
     tokens: &'a [Token],
 ) -> Result<(Expr, &'a [Token]), ExprFault>
-    ensures { Reads (λ x. (x.0, x.1.now)) (spec.steps_at turns opened of tokens.now) result }
+    ensures { Reads (spec.steps_at turns opened of tokens.now) result }
 {
     if turns == 0 {
         return Err(too_deep(tokens));
@@ -336,7 +359,7 @@ fn is_dot(tokens: &[Token]) -> bool
 }
 
 fn is_each(tokens: &[Token]) -> bool
-    ensures { result ≡ spec.is_each (spec.first_kind tokens.now) }
+    ensures { result ≡ is_each (spec.first_kind tokens.now) }
 {
     let [token, ..] = tokens else {
         return false;
