@@ -1,12 +1,12 @@
 -- What an expression gives names only living records, where its variables do.
-use Rattle.std.proofs.Common.{◌≡◌, ℕ, ◌<◌, ◌-◌, suc, zero, Bool, true, false, not, cond, ◌||◌, List, [], ◌∷◌, map, filter, length, get_or, Option, Some, None, IsSome, All, Result, Ok, Err, IfOk, reverse, find, bytes_eq, ℤ, pos, neg_ℤ, ◌+ℤ◌, ◌-ℤ◌, ◌*ℤ◌, arith, sym, ◌∙◌, subst, refl}
+use Rattle.std.proofs.Common.{◌≡◌, ℕ, ◌<◌, ◌-◌, suc, zero, Bool, true, false, not, cond, ◌||◌, List, [], ◌∷◌, ◌++◌, map, filter, length, get_or, Option, Some, None, IsSome, All, Result, Ok, Err, IfOk, reverse, find, bytes_eq, ℤ, pos, neg_ℤ, ◌+ℤ◌, ◌-ℤ◌, ◌*ℤ◌, arith, sym, ◌∙◌, subst, refl}
 use Rattle.std.specs.Prelude.{◌==◌, slice_get}
 use Rattle.std.specs.List.{list_any}
 use Rattle.std.specs.Option.{option_map_or}
 use Rattle.std.specs.Ordering.{nat_cmp, eq_by_cmp}
 use Rattle.std.specs.FinMap as finite
 use Rattle.std.proofs.lemmas.List.{get_or-reverse, length-reverse}
-use Rattle.std.proofs.lemmas.List.Elements.{All-map, All-filter}
+use Rattle.std.proofs.lemmas.List.Elements.{All-map, All-filter, All-append, All-cons}
 use Rattle.std.proofs.lemmas.Bool.Decides.{nat_tests}
 use Rattle.doll_expr.specs.declared.expr.Op.{Op}
 use Rattle.doll_expr.specs.declared.expr.Op.TheVariants as op
@@ -161,3 +161,7 @@ step_lives schema table (val.List model ids) name fits = tt
 -- the same in an equal table
 pub lives_along : (t u : TableMap) (v : Val) → t ≡ u → IsLiving t v → IsLiving u v
 lives_along t u v e h = subst (λ t. IsLiving t v) e h
+
+-- living variables with one more
+pub bound_live : (table : TableMap) (vars : List (List ℕ × Val)) (name : List ℕ) (v : Val) → AreLiving table vars → IsLiving table v → AreLiving table (vars ++ (name, v) ∷ [])
+bound_live table vars name v living lives = All-append (λ (b : List ℕ × Val). IsLiving table b.1) vars ((name, v) ∷ []) living (All-cons (λ (b : List ℕ × Val). IsLiving table b.1) (name, v) [] lives (λ k d h. absurd (omega arith)))

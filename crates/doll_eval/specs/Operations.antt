@@ -5,6 +5,7 @@ use Rattle.std.specs.declared.cmp.Ordering.{Ordering}
 use Rattle.std.specs.Ordering.{nat_cmp, int_cmp, int_eq, is_lt, is_le, is_gt, is_ge}
 use Rattle.std.specs.Cmp.Lexicographic.{slice_cmp}
 use Rattle.std.specs.Fmt.{signed_decimal}
+use Rattle.doll_schema.specs.Escape.{escaped}
 use Rattle.doll_expr.specs.declared.expr.Op.{Op}
 use Rattle.doll_expr.specs.declared.expr.Op.TheVariants as op
 use Rattle.doll_expr.specs.declared.expr.Query.{Query}
@@ -119,3 +120,7 @@ printed (val.Plain (value.Int n)) = signed_decimal n
 printed (val.Plain (value.Text t)) = t
 printed (val.Plain (value.Bool b)) = (if b then codes "true" else codes "false")
 printed v = []
+
+-- the same as a page holds it, escaped for HTML unless it is written raw
+abbrev pub written : Bool → Val → List ℕ
+written raw v = (if raw then printed v else escaped (printed v))

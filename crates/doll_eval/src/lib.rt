@@ -1,10 +1,13 @@
 //! The value of an expression, and the parts of a record that an expression may name.
 #![tactic(auto)]
 
-pub mod eval;
+mod evaluation;
 pub mod member;
-pub mod operate;
-mod step;
+mod operators;
+mod printing;
+mod steps;
 
+pub use evaluation::{eval, look_up};
 pub use member::Member;
-pub use operate::{is_true, nil};
+pub use operators::{is_true, nil};
+pub use printing::print;

@@ -1,5 +1,5 @@
 use Rattle.doll_eval.proofs.Livings.{lives_along}
-use Rattle.doll_eval.proofs.eval.+eval.Goals as goal
+use Rattle.doll_eval.proofs.evaluation.+eval.Goals as goal
 
 pub returns-in_ok-right-in-Binary-clause-living : goal.returns-in_ok-right-in-Binary-clause-living
 returns-in_ok-right-in-Binary-clause-living g t c =

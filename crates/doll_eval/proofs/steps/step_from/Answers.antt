@@ -1,6 +1,6 @@
 use Rattle.doll_eval.specs.Values.{record_step}
 use Rattle.doll_eval.proofs.Livings.{ok_lives, record_step_lives}
-use Rattle.doll_eval.proofs.step.step_from.Goals as goal
+use Rattle.doll_eval.proofs.steps.step_from.Goals as goal
 
 pub returns-in-Record-clause-living : goal.returns-in-Record-clause-living
 returns-in-Record-clause-living g c =

@@ -1,7 +1,7 @@
 use Rattle.std.proofs.Common.{rules}
 use Rattle.doll_eval.specs.Values.{variable}
 use Rattle.doll_eval.proofs.Livings.{ok_lives, variable_lives}
-use Rattle.doll_eval.proofs.eval.look_up.Goals as goal
+use Rattle.doll_eval.proofs.evaluation.look_up.Goals as goal
 
 pub returns-clause-living : goal.returns-clause-living
 returns-clause-living c table living =

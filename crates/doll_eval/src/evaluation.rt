@@ -9,8 +9,8 @@ ghost use Rattle.doll_eval.specs.Living.{IsLiving, AreLiving};
 ghost use Rattle.doll_eval.specs.Operations;
 ghost use Rattle.doll_eval.specs.Values.{value_of, looks_of, variable};
 
-use crate::operate::{ask, is_settled, negate, nil, not, operate, truth};
-use crate::step::step;
+use crate::operators::{ask, is_settled, negate, nil, not, operate, truth};
+use crate::steps::step;
 use doll_expr::{Copied, Expr, Memory, Name};
 use doll_schema::{Schema, Val, Value, Vars};
 use doll_table::Rows;

@@ -14,7 +14,7 @@ ghost use Rattle.doll_eval.specs.Values.{step_looks};
 ghost use Rattle.doll_eval.specs.Operations.{nil, whole};
 
 use crate::member::Member;
-use crate::operate::{nil, whole_from};
+use crate::operators::{nil, whole_from};
 use doll_expr::{Copied, Ids, Memory, Name};
 use doll_schema::{Model, Schema, Val, Value};
 use doll_table::{Assoc, Rows};
