@@ -73,3 +73,7 @@ written scene = fold-Node Writes Choice (node_step scene) (arm_step scene)
 -- direct rendering of a tree
 abbrev pub direct : Scene → List Node → Writes
 direct scene tree env = flat_map (λ node. written scene node env) tree
+
+-- what a template is rendered over where no partials are read yet: they write nothing
+abbrev pub plain_scene : Schema → TableMap → Scene
+plain_scene schema table = record { schema = schema; table = table; partial = λ name env. [] }

@@ -1,0 +1,97 @@
+-- The bundles that are read so far: one model without associations, one route of a record, one view, and commits that
+-- create (this project's own).
+use Rattle.std.specs.Prelude.{ℕ, Bool, true, false, ◌&&◌, not, nat_eq, List, [], ◌∷◌, Option, None, Some, option_and_then, is_some, is_none, codes, if◌then◌else◌}
+use Rattle.std.specs.List.{ends_with}
+use Rattle.std.specs.Str.{bytes_eq}
+use Rattle.serde_json.specs.Data.{Data, string, array, object, Items, no_items, item, Members, no_members, member}
+use Rattle.serde_json.specs.Find.{get, as_str, as_array, as_object}
+use Rattle.doll_schema.specs.Json.{has_only, text_at, list_at, object_at}
+use Rattle.doll.specs.Paths.{file_of}
+
+-- what is taken from a bundle of this form
+pub record Parts : Type 0 where
+  pub schema : Data
+  pub path : List ℕ
+  pub template : List ℕ
+  pub owner : Data
+  pub source : Data
+  pub commits : Data
+
+-- the one item of an array
+abbrev pub only_item : Items → Option Data
+only_item (item d no_items) = Some d
+only_item other = None
+
+-- the one member of an object
+abbrev pub only_member : Members → Option (List ℕ × Data)
+only_member (member key d no_members) = Some (key, d)
+only_member other = None
+
+infixl 10 ◌>>=◌
+abbrev pub ◌>>=◌ : {A B : Type 0} → Option A → (A → Option B) → Option B
+found >>= f = option_and_then f found
+
+-- the value, where the test holds
+abbrev pub where_holds : {A : Type 0} → Bool → A → Option A
+where_holds holds value = if holds then Some value else None
+
+-- the one model of a schema, without associations
+abbrev pub has_plain_model : Data → Bool
+has_plain_model schema = is_some (list_at (codes "models") schema >>= only_item >>= λ model. where_holds (is_none (get (codes "belongs_to") model) && is_none (get (codes "has_many") model)) model)
+
+-- each change of the array creates; what is no array has none
+abbrev pub each_creates : Items → Bool
+each_creates no_items = true
+each_creates (item change changes) = is_some (get (codes "create") change) && each_creates changes
+
+abbrev pub all_create : Option Data → Bool
+all_create None = true
+all_create (Some (array changes)) = each_creates changes
+all_create (Some other) = true
+
+-- each commit has a moment and changes that create
+abbrev pub each_commit_creates : Items → Bool
+each_commit_creates no_items = true
+each_commit_creates (item commit commits) = is_some (get (codes "at") commit) && all_create (get (codes "changes") commit) && each_commit_creates commits
+
+abbrev pub commits_create : Data → Bool
+commits_create (array commits) = each_commit_creates commits
+commits_create other = true
+
+-- the one route, and the path and template that it names
+abbrev pub route_keys : List (List ℕ)
+route_keys = codes "path" ∷ codes "template" ∷ codes "record" ∷ []
+
+pub record RouteParts : Type 0 where
+  pub path : List ℕ
+  pub template : List ℕ
+  pub owner : Data
+
+abbrev pub route_parts : Data → Option RouteParts
+route_parts route = do
+  path ← text_at (codes "path") route
+  template ← text_at (codes "template") route
+  owner ← get (codes "record") route
+  where_holds (has_only route_keys route && ends_with nat_eq path (codes "/:id")) (record { path = path; template = template; owner = owner })
+
+-- the source of the one view, which is the template's file
+abbrev pub source_of : List ℕ → Members → Option Data
+source_of template views = do
+  view ← only_member views
+  where_holds (bytes_eq view.0 (file_of template)) view.1
+
+abbrev pub bundle_keys : List (List ℕ)
+bundle_keys = codes "schema" ∷ codes "routes" ∷ codes "views" ∷ codes "commits" ∷ []
+
+-- the parts of a bundle of this form
+abbrev pub parts_of : Data → Option Parts
+parts_of bundle = do
+  schema ← get (codes "schema") bundle
+  routes ← list_at (codes "routes") bundle
+  route ← only_item routes
+  named ← route_parts route
+  views ← object_at (codes "views") bundle
+  source ← source_of named.template views
+  commits ← get (codes "commits") bundle
+  where_holds (has_only bundle_keys bundle && has_plain_model schema && commits_create commits)
+    (record { schema = schema; path = named.path; template = named.template; owner = named.owner; source = source; commits = commits })
