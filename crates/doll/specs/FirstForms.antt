@@ -6,7 +6,7 @@ use Rattle.std.specs.Str.{bytes_eq}
 use Rattle.serde_json.specs.Data.{Data, string, array, object, Items, no_items, item, Members, no_members, member}
 use Rattle.serde_json.specs.Find.{get, as_str, as_array, as_object}
 use Rattle.doll_schema.specs.Json.{has_only, text_at, list_at, object_at}
-use Rattle.doll.specs.Paths.{file_of}
+use Rattle.doll.specs.Paths.{virtual_path}
 
 -- what is taken from a bundle of this form
 pub record Parts : Type 0 where
@@ -78,7 +78,8 @@ route_parts route = do
 abbrev pub source_of : List ℕ → Members → Option Data
 source_of template views = do
   view ← only_member views
-  where_holds (bytes_eq view.0 (file_of template)) view.1
+  path ← virtual_path view.0
+  where_holds (bytes_eq path template) view.1
 
 abbrev pub bundle_keys : List (List ℕ)
 bundle_keys = codes "schema" ∷ codes "routes" ∷ codes "views" ∷ codes "commits" ∷ []

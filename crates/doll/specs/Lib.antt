@@ -1,1 +1,3 @@
+pub mod FirstForms
 pub mod Paths
+pub mod Seen

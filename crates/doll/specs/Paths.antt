@@ -40,9 +40,9 @@ is_view_path (suc more) path =
 abbrev pub is_virtual_path : List ℕ → Bool
 is_virtual_path path = is_view_path 8 path
 
--- the name of the file of a virtual path
-abbrev pub file_of : List ℕ → List ℕ
-file_of path = path ++ codes ".html.erb"
+-- the virtual path of a view's file: its name without the ending
+abbrev pub virtual_path : List ℕ → Option (List ℕ)
+virtual_path file = if ends_with nat_eq file (codes ".html.erb") then Some (take (length file - 9) file) else None
 
 -- the number that decimal digits say, behind a number already read
 abbrev pub digits_from : ℕ → List ℕ → ℕ
