@@ -1,3 +1,4 @@
+pub mod Creates
 pub mod FirstForms
 pub mod Paths
 pub mod Seen

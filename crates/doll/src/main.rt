@@ -1,6 +1,7 @@
 //! The program.
 #![tactic(auto)]
 
+mod create;
 mod first_form;
 mod path;
 mod refusal;
