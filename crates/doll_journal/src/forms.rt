@@ -1,0 +1,226 @@
+//! Reading changes from JSON.
+
+ghost use Rattle.std.specs.Prelude.{◌≡◌, codes, IfOk, is_some};
+ghost use Rattle.serde_json.specs.View.{items_view, members_view, view};
+ghost use Rattle.serde_json.specs.Find.{get};
+ghost use Rattle.doll_journal.specs.Forms.{value_in, pair_in, pairs_in, given_in, given_at, id_at, model_at, short, create_in, update_in, destroy_in, touch_in, change_in, list_in, changes_in};
+
+use crate::change::{Change, Changes, Given};
+use doll_expr::{Items, Memory, Name, Text};
+use doll_schema::Value;
+use doll_schema::json::{has_only, object_at, text_at, whole_at};
+use serde_json::Map;
+use std::alloc::Global;
+
+/// The changes that the JSON value is, or None where it is no array of changes.
+pub fn changes_of(alloc: Global, json: &serde_json::Value) -> Result<Option<Changes>, Memory>
+    ensures { IfOk result (λ o. o ≡ changes_in (view json.now)) }
+{
+    let Some(items) = json.as_array() else {
+        return Ok(None);
+    };
+    changes_in(alloc, items.as_slice())
+}
+
+#[tactic(auto, using(std::proofs::lemmas::Grind::common_steps, crate::proofs::Fronts::front_starts, crate::proofs::Fronts::front_grows, crate::proofs::Fronts::front_stops, crate::proofs::Fronts::front_ends))]
+fn changes_in(alloc: Global, items: &[serde_json::Value]) -> Result<Option<Changes>, Memory>
+    ensures { IfOk result (λ o. o ≡ list_in (items_view items.now)) }
+{
+    let mut changes = Items::new(alloc);
+    for item in items {
+        let Some(change) = change_in(alloc, item)? else {
+            return Ok(None);
+        };
+        changes.push(change)?;
+    }
+    Ok(Some(changes))
+}
+
+fn change_in(alloc: Global, json: &serde_json::Value) -> Result<Option<Change>, Memory>
+    ensures { IfOk result (λ o. o ≡ change_in (view json.now)) }
+{
+    if json.get("create").is_some() {
+        return create_in(alloc, json);
+    }
+    if json.get("update").is_some() {
+        return update_in(alloc, json);
+    }
+    if json.get("destroy").is_some() {
+        return destroy_in(alloc, json);
+    }
+    touch_in(alloc, json)
+}
+
+fn create_in(alloc: Global, json: &serde_json::Value) -> Result<Option<Change>, Memory>
+    ensures { IfOk result (λ o. o ≡ create_in (view json.now)) }
+{
+    if !has_only(json, &["create", "values"]) {
+        return Ok(None);
+    }
+    let Some(model) = model_at(alloc, json, "create")? else {
+        return Ok(None);
+    };
+    let Some(values) = given_at(alloc, json)? else {
+        return Ok(None);
+    };
+    Ok(Some(Change::Create { model, values }))
+}
+
+fn update_in(alloc: Global, json: &serde_json::Value) -> Result<Option<Change>, Memory>
+    ensures { IfOk result (λ o. o ≡ update_in (view json.now)) }
+{
+    if !has_only(json, &["update", "id", "values"]) {
+        return Ok(None);
+    }
+    let Some(model) = model_at(alloc, json, "update")? else {
+        return Ok(None);
+    };
+    let Some(id) = id_at(json) else {
+        return Ok(None);
+    };
+    let Some(values) = given_at(alloc, json)? else {
+        return Ok(None);
+    };
+    Ok(Some(Change::Update { model, id, values }))
+}
+
+fn destroy_in(alloc: Global, json: &serde_json::Value) -> Result<Option<Change>, Memory>
+    ensures { IfOk result (λ o. o ≡ destroy_in (view json.now)) }
+{
+    if !has_only(json, &["destroy", "id"]) {
+        return Ok(None);
+    }
+    let Some(model) = model_at(alloc, json, "destroy")? else {
+        return Ok(None);
+    };
+    let Some(id) = id_at(json) else {
+        return Ok(None);
+    };
+    Ok(Some(Change::Destroy { model, id }))
+}
+
+fn touch_in(alloc: Global, json: &serde_json::Value) -> Result<Option<Change>, Memory>
+    ensures { IfOk result (λ o. o ≡ touch_in (view json.now)) }
+{
+    if !has_only(json, &["touch", "id"]) {
+        return Ok(None);
+    }
+    let Some(model) = model_at(alloc, json, "touch")? else {
+        return Ok(None);
+    };
+    let Some(id) = id_at(json) else {
+        return Ok(None);
+    };
+    Ok(Some(Change::Touch { model, id }))
+}
+
+fn id_at(json: &serde_json::Value) -> Option<u32>
+    ensures { result ≡ id_at (view json.now) }
+{
+    let id = whole_at(json, "id")?;
+    if id < 4_294_967_296 {
+        Some(id as u32)
+    } else {
+        None
+    }
+}
+
+fn model_at(alloc: Global, json: &serde_json::Value, key: &str) -> Result<Option<Name>, Memory>
+    ensures { IfOk result (λ o. o ≡ model_at key.now (view json.now)) }
+{
+    match text_at(json, key) {
+        None => Ok(None),
+        Some(text) => short_name(alloc, text),
+    }
+}
+
+/// The longest text of a change, in bytes.
+const LONGEST: usize = 1_048_576;
+
+fn short_name(alloc: Global, text: &str) -> Result<Option<Name>, Memory>
+    ensures { IfOk result (λ o. o ≡ short text.now) }
+{
+    if text.len() > LONGEST {
+        return Ok(None);
+    }
+    Ok(Some(Name::from_bytes(alloc, text.as_bytes())?))
+}
+
+fn short_text(alloc: Global, text: &str) -> Result<Option<Text>, Memory>
+    ensures { IfOk result (λ o. o ≡ short text.now) }
+{
+    if text.len() > LONGEST {
+        return Ok(None);
+    }
+    Ok(Some(Text::from_bytes(alloc, text.as_bytes())?))
+}
+
+fn given_at(alloc: Global, json: &serde_json::Value) -> Result<Option<Given>, Memory>
+    ensures { IfOk result (λ o. o ≡ given_at (view json.now)) }
+{
+    match object_at(json, "values") {
+        None => Ok(None),
+        Some(members) => given_in(alloc, members),
+    }
+}
+
+#[tactic(auto, using(std::proofs::lemmas::Grind::common_steps, crate::proofs::Texts::members_count))]
+fn given_in(
+    alloc: Global,
+    members: &Map<String, serde_json::Value>,
+) -> Result<Option<Given>, Memory>
+    ensures { IfOk result (λ o. o ≡ given_in (members_view members.now.entries)) }
+{
+    if members.len() > 64 {
+        return Ok(None);
+    }
+    pairs_in(alloc, members)
+}
+
+#[tactic(auto, using(std::proofs::lemmas::Grind::common_steps, crate::proofs::Fronts::front_starts, crate::proofs::Fronts::front_grows, crate::proofs::Fronts::front_stops, crate::proofs::Fronts::front_ends))]
+fn pairs_in(
+    alloc: Global,
+    members: &Map<String, serde_json::Value>,
+) -> Result<Option<Given>, Memory>
+    ensures { IfOk result (λ o. o ≡ pairs_in (members_view members.now.entries)) }
+{
+    let mut given = Items::new(alloc);
+    for (name, json) in members.iter() {
+        let Some(pair) = pair_in(alloc, name.as_str(), json)? else {
+            return Ok(None);
+        };
+        given.push(pair)?;
+    }
+    Ok(Some(given))
+}
+
+fn pair_in(
+    alloc: Global,
+    name: &str,
+    json: &serde_json::Value,
+) -> Result<Option<(Name, Value)>, Memory>
+    ensures { IfOk result (λ o. o ≡ pair_in name.now (view json.now)) }
+{
+    let Some(name) = short_name(alloc, name)? else {
+        return Ok(None);
+    };
+    let Some(value) = value_in(alloc, json)? else {
+        return Ok(None);
+    };
+    Ok(Some((name, value)))
+}
+
+fn value_in(alloc: Global, json: &serde_json::Value) -> Result<Option<Value>, Memory>
+    ensures { IfOk result (λ o. o ≡ value_in (view json.now)) }
+{
+    match json {
+        serde_json::Value::Null => Ok(Some(Value::Nil)),
+        serde_json::Value::Bool(value) => Ok(Some(Value::Bool(*value))),
+        serde_json::Value::Number(number) => Ok(number.as_i64().map(Value::Int)),
+        serde_json::Value::String(text) => match short_text(alloc, text.as_str())? {
+            None => Ok(None),
+            Some(text) => Ok(Some(Value::Text(text))),
+        },
+        _ => Ok(None),
+    }
+}
