@@ -1,7 +1,7 @@
 -- What is read is a sentence of the grammar.
-use Rattle.std.proofs.Common.{◌≡◌, ℕ, zero, suc, Bool, true, false, not, cond, ◌&&◌, List, [], ◌∷◌, ◌++◌, length, drop, eqb, Option, Some, None, Result, Ok, Err, refl, sym, ap, subst, ◌∙◌, inl, inr, append_assoc, arith}
+use Rattle.std.proofs.Common.{◌≡◌, ◌≤◌, ℕ, zero, suc, true, false, not, cond, ◌&&◌, List, [], ◌∷◌, ◌++◌, length, drop, eqb, Option, Some, None, Ok, Err, refl, sym, ap, subst, ◌∙◌, inl, inr, append_assoc, arith}
 use Rattle.std.proofs.lemmas.Bool.{and_parts, eqb-true}
-use Rattle.std.proofs.lemmas.List.{append-nil, nil_from_length, length-drop}
+use Rattle.std.proofs.lemmas.List.{append-nil}
 use Rattle.doll_expr.specs.declared.expr.Expr.{Expr}
 use Rattle.doll_expr.specs.declared.expr.Expr.TheVariants as e
 use Rattle.doll_expr.specs.declared.expr.Op.{Op}
@@ -10,28 +10,54 @@ use Rattle.doll_expr.specs.declared.level.Level.TheVariants as level
 use Rattle.doll_expr.specs.declared.level.Sign.{Sign}
 use Rattle.doll_expr.specs.declared.token.Mark.TheVariants as mark
 use Rattle.doll_expr.specs.declared.token.Token.{Token}
+use Rattle.doll_expr.specs.declared.token.TokenKind.{TokenKind}
 use Rattle.doll_expr.specs.declared.token.TokenKind.TheVariants as kind
 use Rattle.doll_expr.specs.Tokens.{is_dot, token, tokens_of}
 use Rattle.doll_expr.specs.Grammar.{is_each, Rule, expr, unary, postfix, atom, Sentence, AreExpr, IsExpr, mark_at, unary_one, postfix_one, atom_parentheses}
-use Rattle.doll_expr.specs.Reading.{tighter, repeats, operator_of, sign_of, signed, literal, step_of, is_open, is_close, is_end, first_kind, place, has_step, fault_at, stops_at, close_at, steps_at, level_at, more_at, unary_at, atom_at, expr_at, whole_of, expr_of, ◌>>=◌}
-use Rattle.doll_expr.proofs.Rules.{rule_of, below, begun, below_is, unary_is, begins, ends, again, joins, first_is, operator_mark, mark_of_sign, sign_mark, sign_joins, dot_is, open_is, close_is, end_is, literal_other, literal_joins, step_other, step_joins, bind_ok, if_some_is, chosen, ok_is}
+use Rattle.doll_expr.specs.Reading.{tighter, repeats, operator_of, sign_of, signed, literal, step_of, is_open, is_close, is_end, first_kind, place, has_step, fault_at, stops_at, close_at, steps_at, level_at, more_at, unary_at, atom_at, turns, expr_at, whole_of, expr_of, ◌>>=◌, Read}
+use Rattle.doll_expr.proofs.Turns.{Alike, alike_append, steps_go, steps_end, level_go, level_last, more_go, more_last, more_none, unary_sign, unary_go, atom_literal, atom_open}
+use Rattle.doll_expr.proofs.Rules.{sign_again, rule_of, below, begun, below_is, unary_is, begins, ends, again, joins, first_is, operator_mark, mark_of_sign, sign_mark, sign_joins, dot_is, open_is, close_is, end_is, literal_other, literal_joins, step_other, step_joins, bind_ok, if_some_is, chosen, ok_is}
 
-abbrev Pair : Type 0
+abbrev pub Pair : Type 0
 Pair = Expr × List Token
 
--- tokens that are used up and are a sentence, and the tree and the rest
-pub record Found (r : Rule) (ts : List Token) (x : Pair) : Type 0 where
+-- Tokens that are used up and are a sentence, and the tree and the rest. The reading gives the same with more turns and before
+-- other tokens that are alike. P is what must hold for the rest not to begin with a step.
+pub record Found (R : ℕ → List Token → Read) (n : ℕ) (P : Type 0) (r : Rule) (ts : List Token) (x : Pair) : Type 0 where
   pub used : List Token
   pub parts : ts ≡ used ++ x.1
   pub sentence : Sentence r used x.0
+  pub ended : P → has_step x.1 ≡ false
+  pub local : (k : ℕ) (rest : List Token) → n ≤ k → Alike x.1 rest → R k (used ++ rest) ≡ Ok (x.0, rest)
 
--- tokens that make a sentence together with those of the tree on their left
-pub record Goes (before after : Rule) (left : Expr) (ts : List Token) (x : Pair) : Type 0 where
+-- the same of tokens that make a sentence together with those of the tree on their left
+pub record Goes (R : ℕ → List Token → Read) (n : ℕ) (P : Type 0) (before after : Rule) (left : Expr) (ts : List Token) (x : Pair) : Type 0 where
   pub used : List Token
   pub parts : ts ≡ used ++ x.1
   pub sentence : (vs : List Token) → Sentence before vs left → Sentence after (vs ++ used) x.0
+  pub ended : P → has_step x.1 ≡ false
+  pub local : (k : ℕ) (rest : List Token) → n ≤ k → Alike x.1 rest → R k (used ++ rest) ≡ Ok (x.0, rest)
 
-steps_found : (n : ℕ) (opened : Option ℕ) (a : Expr) (ts : List Token) (x : Pair) → steps_at n opened a ts ≡ Ok x → Goes postfix postfix a ts x
+pub alike_here : (ts used rest more : List Token) → ts ≡ used ++ rest → Alike rest more → Alike ts (used ++ more)
+alike_here ts used rest more parts alike = rw parts (alike_append used rest more alike)
+
+-- a step behind a dot, as the reading sees it in these tokens
+pub record Step (a b : Expr) (ts : List Token) : Type 0 where
+  pub kind : TokenKind
+  pub places : ℕ × ℕ
+  pub front : ts ≡ mark_at mark.Dot places.0 ∷ token kind places.1 ∷ drop 1 (drop 1 ts)
+  pub other : not (is_each kind) ≡ true
+  pub is : step_of a kind ≡ Some b
+
+pub step_is : (a b : Expr) (ts : List Token) → has_step ts ≡ true → step_of a (first_kind (drop 1 ts)) ≡ Some b → Step a b ts
+step_is a b ts has is =
+    let k = first_kind (drop 1 ts) in
+    let both = and_parts (is_dot (first_kind ts)) (not (is_each k)) has in
+    let front : ts ≡ mark_at mark.Dot (place ts) ∷ drop 1 ts = first_is ts (kind.Mark mark.Dot) (dot_is (first_kind ts) both.0) refl in
+    let second : drop 1 ts ≡ token k (place (drop 1 ts)) ∷ drop 1 (drop 1 ts) = first_is (drop 1 ts) k refl (step_other a b k is) in
+    record { kind = k; places = (place ts, place (drop 1 ts)); front = front ∙ ap (λ (us : List Token). mark_at mark.Dot (place ts) ∷ us) second; other = both.1; is = is }
+
+pub steps_found : (n : ℕ) (opened : Option ℕ) (a : Expr) (ts : List Token) (x : Pair) → steps_at n opened a ts ≡ Ok x → Goes (λ k us. steps_at k opened a us) n (Unit {0}) postfix postfix a ts x
 unfolding steps_at
 steps_found zero opened a ts x h = absurd cc
 steps_found (suc n) opened a ts x h =
@@ -39,35 +65,36 @@ steps_found (suc n) opened a ts x h =
       | inl s ↦ elim (if_some_is (step_of a (first_kind (drop 1 ts))) (λ (b : Expr). steps_at n opened b (drop 1 (drop 1 ts))) (Err (fault_at opened (drop 1 ts))) (Ok x) s.1) [
         | inl t ↦
             let b = t.0 in
-            let dot : first_kind ts ≡ kind.Mark mark.Dot = dot_is (first_kind ts) (and_parts (is_dot (first_kind ts)) (not (is_each (first_kind (drop 1 ts)))) s.0).0 in
-            let front : ts ≡ mark_at mark.Dot (place ts) ∷ drop 1 ts = first_is ts (kind.Mark mark.Dot) dot refl in
-            let k = first_kind (drop 1 ts) in
+            let st = step_is a b ts s.0 t.1 in
             let more = steps_found n opened b (drop 1 (drop 1 ts)) x t.2 in
-            let other : is_end k ≡ false = step_other a b k t.1 in
-            let second : drop 1 ts ≡ token k (place (drop 1 ts)) ∷ drop 1 (drop 1 ts) = first_is (drop 1 ts) k refl other in
-            let step : List Token = mark_at mark.Dot (place ts) ∷ token k (place (drop 1 ts)) ∷ [] in
+            let step : List Token = mark_at mark.Dot st.places.0 ∷ token st.kind st.places.1 ∷ [] in
             record {
               used = step ++ more.used;
-              parts = front ∙ ap (λ (us : List Token). mark_at mark.Dot (place ts) ∷ us) (second ∙ ap (λ (us : List Token). token k (place (drop 1 ts)) ∷ us) more.parts);
-              sentence = λ vs s. subst (λ (us : List Token). Sentence postfix us x.0) (append_assoc vs step more.used) (more.sentence (vs ++ step) (step_joins a b k vs (place ts) (place (drop 1 ts)) t.1 s));
+              parts = st.front ∙ ap (λ (us : List Token). step ++ us) more.parts;
+              sentence = λ vs v. subst (λ (us : List Token). Sentence postfix us x.0) (append_assoc vs step more.used) (more.sentence (vs ++ step) (step_joins a b st.kind vs st.places.0 st.places.1 st.is v));
+              ended = more.ended;
+              local = λ k rest enough alike. steps_go n k opened a b (step ++ (more.used ++ rest)) (Ok (x.0, rest)) enough st.other st.is (λ m le. more.local m rest le alike);
             }
         | inr t ↦ absurd (let f : Err (fault_at opened (drop 1 ts)) ≡ Ok x = t.1 in cc)
       ]
-      | inr s ↦ subst (Goes postfix postfix a ts) (ok_is (a, ts) x s.1) (record {
+      | inr s ↦ subst (Goes (λ k us. steps_at k opened a us) (suc n) (Unit {0}) postfix postfix a ts) (ok_is (a, ts) x s.1) (record {
         used = [];
         parts = refl;
         sentence = λ vs t. subst (λ (us : List Token). Sentence postfix us a) (sym (append-nil vs)) t;
+        ended = λ _. s.0;
+        local = λ k rest enough alike. steps_end n k opened a rest enough (sym alike.step ∙ s.0);
       })
     ]
 
 -- what holds with this many turns
 pub record AllFound (n : ℕ) : Type 0 where
-  pub level : (opened : Option ℕ) (l : Level) (ts : List Token) (x : Pair) → level_at n opened l ts ≡ Ok x → Found (rule_of l) ts x
-  pub more : (opened : Option ℕ) (l inner : Level) (left : Expr) (ts : List Token) (x : Pair) → tighter l ≡ Some inner → more_at n opened l inner left ts ≡ Ok x → Goes (begun l) (rule_of l) left ts x
-  pub unary : (opened : Option ℕ) (ts : List Token) (x : Pair) → unary_at n opened ts ≡ Ok x → Found unary ts x
-  pub atom : (opened : Option ℕ) (ts : List Token) (x : Pair) → atom_at n opened ts ≡ Ok x → Found atom ts x
+  pub level : (opened : Option ℕ) (l : Level) (ts : List Token) (x : Pair) → level_at n opened l ts ≡ Ok x → Found (λ k us. level_at k opened l us) n (Unit {0}) (rule_of l) ts x
+  pub more : (opened : Option ℕ) (l inner : Level) (left : Expr) (ts : List Token) (x : Pair) → tighter l ≡ Some inner → more_at n opened l inner left ts ≡ Ok x
+      → Goes (λ k us. more_at k opened l inner left us) n (has_step ts ≡ false) (begun l) (rule_of l) left ts x
+  pub unary : (opened : Option ℕ) (ts : List Token) (x : Pair) → unary_at n opened ts ≡ Ok x → Found (λ k us. unary_at k opened us) n (Unit {0}) unary ts x
+  pub atom : (opened : Option ℕ) (ts : List Token) (x : Pair) → atom_at n opened ts ≡ Ok x → Found (λ k us. atom_at k opened us) n ⊥ atom ts x
 
-level_found : (n : ℕ) → AllFound n → (opened : Option ℕ) (l : Level) (ts : List Token) (x : Pair) → level_at (suc n) opened l ts ≡ Ok x → Found (rule_of l) ts x
+level_found : (n : ℕ) → AllFound n → (opened : Option ℕ) (l : Level) (ts : List Token) (x : Pair) → level_at (suc n) opened l ts ≡ Ok x → Found (λ k us. level_at k opened l us) (suc n) (Unit {0}) (rule_of l) ts x
 unfolding level_at
 level_found n all opened l ts x h =
     elim (if_some_is (tighter l) (λ (inner : Level). level_at n opened inner ts >>= λ (y : Pair). more_at n opened l inner y.0 y.1) (unary_at n opened ts) (Ok x) h) [
@@ -80,11 +107,23 @@ level_found n all opened l ts x h =
             used = first.used ++ others.used;
             parts = first.parts ∙ ap (λ (us : List Token). first.used ++ us) others.parts ∙ sym (append_assoc first.used others.used x.1);
             sentence = others.sentence first.used (begins l first.used b.0.0 operand);
+            ended = λ _. others.ended (first.ended tt);
+            local = λ k rest enough alike. ap (level_at k opened l) (append_assoc first.used others.used rest) ∙ level_go n k opened l s.0 (first.used ++ (others.used ++ rest)) (others.used ++ rest) b.0.0 (Ok (x.0, rest)) enough s.1
+                (λ m le. first.local m (others.used ++ rest) le (alike_here b.0.1 others.used x.1 rest others.parts alike)) (λ m le. others.local m rest le alike);
           }
-      | inr s ↦ subst (λ (r : Rule). Found r ts x) (sym (unary_is l s.0)) (all.unary opened ts x s.1)
+      | inr s ↦
+          let u = all.unary opened ts x s.1 in
+          record {
+            used = u.used;
+            parts = u.parts;
+            sentence = subst (λ (r : Rule). Sentence r u.used x.0) (sym (unary_is l s.0)) u.sentence;
+            ended = u.ended;
+            local = λ k rest enough alike. level_last n k opened l (u.used ++ rest) (Ok (x.0, rest)) enough s.0 (λ m le. u.local m rest le alike);
+          }
     ]
 
-more_found : (n : ℕ) → AllFound n → (opened : Option ℕ) (l inner : Level) (left : Expr) (ts : List Token) (x : Pair) → tighter l ≡ Some inner → more_at (suc n) opened l inner left ts ≡ Ok x → Goes (begun l) (rule_of l) left ts x
+more_found : (n : ℕ) → AllFound n → (opened : Option ℕ) (l inner : Level) (left : Expr) (ts : List Token) (x : Pair) → tighter l ≡ Some inner → more_at (suc n) opened l inner left ts ≡ Ok x
+    → Goes (λ k us. more_at k opened l inner left us) (suc n) (has_step ts ≡ false) (begun l) (rule_of l) left ts x
 unfolding more_at
 more_found n all opened l inner left ts x operands h =
     elim (if_some_is (operator_of l (first_kind ts)) (λ (o : Op). level_at n opened inner (drop 1 ts) >>= λ (y : Pair). cond (repeats l) (more_at n opened l inner (e.Binary o left y.0) y.1) (Ok (e.Binary o left y.0, y.1))) (Ok (left, ts)) (Ok x) h) [
@@ -106,21 +145,28 @@ more_found n all opened l inner left ts x operands h =
                   parts = parts ∙ ap (λ (us : List Token). taken ++ us) others.parts ∙ sym (append_assoc taken others.used x.1);
                   sentence = λ vs v. subst (λ (us : List Token). Sentence (rule_of l) us x.0) (append_assoc vs taken others.used)
                       (others.sentence (vs ++ taken) (again l (vs ++ taken) both t.0 (joins l m.0 o vs right.used left b.0.0 (place ts) m.2 v operand)));
+                  ended = λ _. others.ended (right.ended tt);
+                  local = λ k rest enough alike. ap (more_at k opened l inner left) (append_assoc taken others.used rest) ∙ more_go n k opened l inner o (taken ++ (others.used ++ rest)) (others.used ++ rest) left b.0.0 (Ok (x.0, rest)) enough m.2 t.0
+                      (λ j le. right.local j (others.used ++ rest) le (alike_here b.0.1 others.used x.1 rest others.parts alike)) (λ j le. others.local j rest le alike);
                 }
-            | inr t ↦ subst (Goes (begun l) (rule_of l) left ts) (ok_is (both, b.0.1) x t.1) (record {
+            | inr t ↦ subst (Goes (λ k us. more_at k opened l inner left us) (suc n) (has_step ts ≡ false) (begun l) (rule_of l) left ts) (ok_is (both, b.0.1) x t.1) (record {
               used = taken;
               parts = parts;
               sentence = λ vs v. joins l m.0 o vs right.used left b.0.0 (place ts) m.2 v operand;
+              ended = λ _. right.ended tt;
+              local = λ k rest enough alike. more_last n k opened l inner o (taken ++ rest) rest left b.0.0 enough m.2 t.0 (λ j le. right.local j rest le alike);
             })
           ]
-      | inr s ↦ subst (Goes (begun l) (rule_of l) left ts) (ok_is (left, ts) x s.1) (record {
+      | inr s ↦ subst (Goes (λ k us. more_at k opened l inner left us) (suc n) (has_step ts ≡ false) (begun l) (rule_of l) left ts) (ok_is (left, ts) x s.1) (record {
         used = [];
         parts = refl;
         sentence = λ vs v. subst (λ (us : List Token). Sentence (rule_of l) us left) (sym (append-nil vs)) (ends l vs left v);
+        ended = λ none. none;
+        local = λ k rest enough alike. more_none n k opened l inner rest left enough (ap (operator_of l) (sym alike.first) ∙ s.0);
       })
     ]
 
-unary_found : (n : ℕ) → AllFound n → (opened : Option ℕ) (ts : List Token) (x : Pair) → unary_at (suc n) opened ts ≡ Ok x → Found unary ts x
+unary_found : (n : ℕ) → AllFound n → (opened : Option ℕ) (ts : List Token) (x : Pair) → unary_at (suc n) opened ts ≡ Ok x → Found (λ k us. unary_at k opened us) (suc n) (Unit {0}) unary ts x
 unfolding unary_at
 unary_found n all opened ts x h =
     elim (if_some_is (sign_of (first_kind ts)) (λ (s : Sign). unary_at n opened (drop 1 ts) >>= λ (y : Pair). Ok (signed s y.0, y.1)) (atom_at n opened ts >>= λ (y : Pair). steps_at n opened y.0 y.1) (Ok x) h) [
@@ -128,10 +174,12 @@ unary_found n all opened ts x h =
           let b = bind_ok (unary_at n opened (drop 1 ts)) (λ (y : Pair). Ok (signed s.0 y.0, y.1)) x s.2 in
           let front : ts ≡ mark_at (mark_of_sign s.0) (place ts) ∷ drop 1 ts = first_is ts (kind.Mark (mark_of_sign s.0)) (sign_mark (first_kind ts) s.0 s.1) refl in
           let inner = all.unary opened (drop 1 ts) b.0 b.1 in
-          subst (Found unary ts) (ok_is (signed s.0 b.0.0, b.0.1) x b.2) (record {
+          subst (Found (λ k us. unary_at k opened us) (suc n) (Unit {0}) unary ts) (ok_is (signed s.0 b.0.0, b.0.1) x b.2) (record {
             used = mark_at (mark_of_sign s.0) (place ts) ∷ inner.used;
             parts = front ∙ ap (λ (us : List Token). mark_at (mark_of_sign s.0) (place ts) ∷ us) inner.parts;
             sentence = sign_joins s.0 inner.used b.0.0 (place ts) inner.sentence;
+            ended = inner.ended;
+            local = λ k rest enough alike. unary_sign n k opened s.0 (mark_at (mark_of_sign s.0) (place ts) ∷ (inner.used ++ rest)) rest b.0.0 enough (sign_again s.0) (λ m le. inner.local m rest le alike);
           })
       | inr s ↦
           let b = bind_ok (atom_at n opened ts) (λ (y : Pair). steps_at n opened y.0 y.1) x s.1 in
@@ -141,19 +189,40 @@ unary_found n all opened ts x h =
             used = first.used ++ others.used;
             parts = first.parts ∙ ap (λ (us : List Token). first.used ++ us) others.parts ∙ sym (append_assoc first.used others.used x.1);
             sentence = unary_one (first.used ++ others.used) x.0 (others.sentence first.used (postfix_one first.used b.0.0 first.sentence));
+            ended = others.ended;
+            local = λ k rest enough alike.
+                let here = alike_here b.0.1 others.used x.1 rest others.parts alike in
+                let whole : Alike ts (first.used ++ (others.used ++ rest)) = alike_here ts first.used b.0.1 (others.used ++ rest) first.parts here in
+                ap (unary_at k opened) (append_assoc first.used others.used rest) ∙ unary_go n k opened (first.used ++ (others.used ++ rest)) (others.used ++ rest) b.0.0 (Ok (x.0, rest)) enough (ap sign_of (sym whole.first) ∙ s.0)
+                (λ m le. first.local m (others.used ++ rest) le here) (λ m le. others.local m rest le alike);
           }
     ]
 
-atom_found : (n : ℕ) → AllFound n → (opened : Option ℕ) (ts : List Token) (x : Pair) → atom_at (suc n) opened ts ≡ Ok x → Found atom ts x
-unfolding atom_at close_at
+-- the parenthesis that closes, as the reading sees it
+pub close_found : (opened : ℕ) (ts rest : List Token) → close_at opened ts ≡ Ok rest → ts ≡ mark_at mark.Close (place ts) ∷ rest
+unfolding close_at
+close_found opened ts rest h =
+    elim (chosen (is_close (first_kind ts)) (Ok (drop 1 ts)) (Err (stops_at (Some opened) ts)) (Ok rest) h) [
+      | inl u ↦ first_is ts (kind.Mark mark.Close) (close_is (first_kind ts) u.0) refl ∙ ap (λ (us : List Token). mark_at mark.Close (place ts) ∷ us) (ok_is (drop 1 ts) rest u.1)
+      | inr u ↦ absurd (let f : Err (stops_at (Some opened) ts) ≡ Ok rest = u.1 in cc)
+    ]
+
+close_again : (opened at : ℕ) (rest : List Token) → close_at opened (mark_at mark.Close at ∷ rest) ≡ Ok rest
+unfolding close_at
+close_again opened at rest = refl
+
+atom_found : (n : ℕ) → AllFound n → (opened : Option ℕ) (ts : List Token) (x : Pair) → atom_at (suc n) opened ts ≡ Ok x → Found (λ k us. atom_at k opened us) (suc n) ⊥ atom ts x
+unfolding atom_at
 atom_found n all opened ts x h =
     elim (if_some_is (literal (first_kind ts)) (λ (a : Expr). Ok (a, drop 1 ts)) (cond (is_open (first_kind ts)) (level_at n (Some (place ts)) level.Or (drop 1 ts) >>= λ (y : Pair). close_at (place ts) y.1 >>= λ (rest : List Token). Ok (y.0, rest)) (Err (fault_at opened ts))) (Ok x) h) [
       | inl s ↦
           let k = first_kind ts in
-          subst (Found atom ts) (ok_is (s.0, drop 1 ts) x s.2) (record {
+          subst (Found (λ k us. atom_at k opened us) (suc n) ⊥ atom ts) (ok_is (s.0, drop 1 ts) x s.2) (record {
             used = token k (place ts) ∷ [];
             parts = first_is ts k refl (literal_other k s.0 s.1);
             sentence = literal_joins k s.0 (place ts) s.1;
+            ended = λ never. absurd never;
+            local = λ m rest enough alike. atom_literal n m opened (token k (place ts) ∷ rest) s.0 enough s.1;
           })
       | inr s ↦
           elim (chosen (is_open (first_kind ts)) (level_at n (Some (place ts)) level.Or (drop 1 ts) >>= λ (y : Pair). close_at (place ts) y.1 >>= λ (rest : List Token). Ok (y.0, rest)) (Err (fault_at opened ts)) (Ok x) s.1) [
@@ -162,18 +231,18 @@ atom_found n all opened ts x h =
                 let c = bind_ok (close_at (place ts) b.0.1) (λ (rest : List Token). Ok (b.0.0, rest)) x b.2 in
                 let front : ts ≡ mark_at mark.Open (place ts) ∷ drop 1 ts = first_is ts (kind.Mark mark.Open) (open_is (first_kind ts) t.0) refl in
                 let inner = all.level (Some (place ts)) level.Or (drop 1 ts) b.0 b.1 in
-                elim (chosen (is_close (first_kind b.0.1)) (Ok (drop 1 b.0.1)) (Err (stops_at (Some (place ts)) b.0.1)) (Ok c.0) c.1) [
-                  | inl u ↦
-                      let last : b.0.1 ≡ mark_at mark.Close (place b.0.1) ∷ drop 1 b.0.1 = first_is b.0.1 (kind.Mark mark.Close) (close_is (first_kind b.0.1) u.0) refl in
-                      let rest : drop 1 b.0.1 ≡ c.0 = ok_is (drop 1 b.0.1) c.0 u.1 in
-                      let closing : List Token = mark_at mark.Close (place b.0.1) ∷ [] in
-                      subst (Found atom ts) (ok_is (b.0.0, c.0) x c.2) (record {
-                        used = mark_at mark.Open (place ts) ∷ (inner.used ++ closing);
-                        parts = front ∙ ap (λ (us : List Token). mark_at mark.Open (place ts) ∷ us) (inner.parts ∙ ap (λ (us : List Token). inner.used ++ us) (last ∙ ap (λ (us : List Token). mark_at mark.Close (place b.0.1) ∷ us) rest) ∙ sym (append_assoc inner.used closing c.0));
-                        sentence = atom_parentheses inner.used b.0.0 (place ts) (place b.0.1) inner.sentence;
-                      })
-                  | inr u ↦ absurd (let f : Err (stops_at (Some (place ts)) b.0.1) ≡ Ok c.0 = u.1 in cc)
-                ]
+                let last = close_found (place ts) b.0.1 c.0 c.1 in
+                let closing : List Token = mark_at mark.Close (place b.0.1) ∷ [] in
+                subst (Found (λ k us. atom_at k opened us) (suc n) ⊥ atom ts) (ok_is (b.0.0, c.0) x c.2) (record {
+                  used = mark_at mark.Open (place ts) ∷ (inner.used ++ closing);
+                  parts = front ∙ ap (λ (us : List Token). mark_at mark.Open (place ts) ∷ us) (inner.parts ∙ ap (λ (us : List Token). inner.used ++ us) last ∙ sym (append_assoc inner.used closing c.0));
+                  sentence = atom_parentheses inner.used b.0.0 (place ts) (place b.0.1) inner.sentence;
+                  ended = λ never. absurd never;
+                  local = λ m rest enough alike.
+                      let same : Alike b.0.1 (closing ++ rest) = rw last (record { first = refl; step = refl }) in
+                      ap (λ (us : List Token). atom_at m opened (mark_at mark.Open (place ts) ∷ us)) (append_assoc inner.used closing rest)
+                      ∙ atom_open n m opened (mark_at mark.Open (place ts) ∷ (inner.used ++ (closing ++ rest))) (closing ++ rest) rest b.0.0 enough refl refl (λ j le. inner.local j (closing ++ rest) le same) (close_again (place ts) (place b.0.1) rest);
+                })
             | inr t ↦ absurd (let f : Err (fault_at opened ts) ≡ Ok x = t.1 in cc)
           ]
     ]
@@ -189,9 +258,9 @@ all_found (suc n) =
     record { level = level_found n all; more = more_found n all; unary = unary_found n all; atom = atom_found n all }
 
 -- an expression at the front of tokens
-pub expr_found : (ts : List Token) (x : Pair) → expr_at ts ≡ Ok x → Found expr ts x
+pub expr_found : (ts : List Token) (x : Pair) → expr_at ts ≡ Ok x → Found (λ k us. level_at k None level.Or us) turns (Unit {0}) expr ts x
 unfolding expr_at
-expr_found ts x h = (all_found _).level None level.Or ts x h
+expr_found ts x h = (all_found turns).level None level.Or ts x h
 
 alone : (ts : List Token) → is_end (first_kind ts) ≡ true → length ts ≡ 1 → ts ≡ token kind.End (place ts) ∷ []
 alone [] last one = absurd (omega arith)

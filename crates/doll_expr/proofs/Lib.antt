@@ -4,3 +4,8 @@ pub mod Rules
 pub mod Found
 pub mod Only
 pub mod Clauses
+pub mod Turns
+pub mod Shapes
+pub mod Ended
+pub mod Stuck
+pub mod FirstFault

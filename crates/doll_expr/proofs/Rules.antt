@@ -1,11 +1,10 @@
 -- The levels of the reading against the rules of the grammar.
-use Rattle.std.proofs.Common.{◌≡◌, ℕ, Bool, true, false, not, cond, ◌&&◌, List, [], ◌∷◌, ◌++◌, drop, Option, Some, None, Result, Ok, Err, refl, sym, ap, subst, ◌∙◌, codes, inl, inr, ◌⊎◌}
+use Rattle.std.proofs.Common.{◌≡◌, ℕ, Bool, true, false, cond, List, [], ◌∷◌, ◌++◌, drop, Option, Some, None, Result, Ok, Err, refl, sym, ap, subst, codes, inl, inr, ◌⊎◌}
 use Rattle.doll_expr.specs.declared.expr.Expr.{Expr}
 use Rattle.doll_expr.specs.declared.expr.Expr.TheVariants as e
 use Rattle.doll_expr.specs.declared.expr.ExprFault.{ExprFault}
 use Rattle.doll_expr.specs.declared.expr.Op.{Op}
 use Rattle.doll_expr.specs.declared.expr.Op.TheVariants as op
-use Rattle.doll_expr.specs.declared.expr.Query.{Query}
 use Rattle.doll_expr.specs.declared.expr.Query.TheVariants as query
 use Rattle.doll_expr.specs.declared.level.Level.{Level}
 use Rattle.doll_expr.specs.declared.level.Level.TheVariants as level
@@ -13,14 +12,13 @@ use Rattle.doll_expr.specs.declared.level.Sign.{Sign}
 use Rattle.doll_expr.specs.declared.level.Sign.TheVariants as sign
 use Rattle.doll_expr.specs.declared.token.Mark.{Mark}
 use Rattle.doll_expr.specs.declared.token.Mark.TheVariants as mark
-use Rattle.doll_expr.specs.declared.token.Word.{Word}
 use Rattle.doll_expr.specs.declared.token.Word.TheVariants as word
 use Rattle.doll_expr.specs.declared.token.Token.{Token}
 use Rattle.doll_expr.specs.declared.token.TokenKind.{TokenKind}
 use Rattle.doll_expr.specs.declared.token.TokenKind.TheVariants as kind
 use Rattle.doll_expr.specs.Tokens.{is_dot, token}
-use Rattle.doll_expr.specs.Grammar.{is_each, Rule, expr, and, eq, cmp, sum, prod, unary, postfix, atom, Sentence, mark_at, word_at, expr_one, expr_or, and_one, and_and, eq_one, eq_equal, eq_not_equal, cmp_one, cmp_less, cmp_less_or_equal, cmp_greater, cmp_greater_or_equal, sum_one, sum_plus, sum_minus, prod_one, prod_times, unary_one, unary_not, unary_minus, postfix_name, postfix_id, postfix_updated_at, postfix_size, postfix_ask, atom_number, atom_text, atom_nil, atom_true, atom_false, atom_name}
-use Rattle.doll_expr.specs.Reading.{tighter, repeats, between, operator_of, sign_of, signed, constant, literal, step_by, step_of, is_open, is_close, is_end, first_kind, place, ◌>>=◌, if_some}
+use Rattle.doll_expr.specs.Grammar.{Rule, expr, and, eq, cmp, sum, prod, unary, postfix, atom, Sentence, mark_at, expr_one, expr_or, and_one, and_and, eq_one, eq_equal, eq_not_equal, cmp_one, cmp_less, cmp_less_or_equal, cmp_greater, cmp_greater_or_equal, sum_one, sum_plus, sum_minus, prod_one, prod_times, unary_one, unary_not, unary_minus, postfix_name, postfix_id, postfix_updated_at, postfix_size, postfix_ask, atom_number, atom_text, atom_nil, atom_true, atom_false, atom_name}
+use Rattle.doll_expr.specs.Reading.{tighter, repeats, between, operator_of, sign_of, signed, literal, step_of, is_open, is_close, is_end, first_kind, place, ◌>>=◌, if_some}
 
 -- the rule of a level, the rule of its operands, and the rule of what may stand on the left of an operator
 abbrev pub rule_of : Level → Rule
@@ -145,6 +143,10 @@ pub sign_mark : (k : TokenKind) (s : Sign) → sign_of k ≡ Some s → k ≡ ki
 sign_mark (kind.Mark mark.Not) s h = let i : sign.Not ≡ s = cc in ap (λ (x : Sign). kind.Mark (mark_of_sign x)) i
 sign_mark (kind.Mark mark.Minus) s h = let i : sign.Minus ≡ s = cc in ap (λ (x : Sign). kind.Mark (mark_of_sign x)) i
 sign_mark _ s h = absurd cc
+
+pub sign_again : (s : Sign) → sign_of (kind.Mark (mark_of_sign s)) ≡ Some s
+sign_again sign.Not = refl
+sign_again sign.Minus = refl
 
 pub sign_joins : (s : Sign) (ts : List Token) (a : Expr) (at : ℕ) → Sentence unary ts a → Sentence unary (mark_at (mark_of_sign s) at ∷ ts) (signed s a)
 sign_joins sign.Not ts a at h = unary_not ts a at h

@@ -2,9 +2,11 @@
 
 ghost use Rattle.std.specs.Prelude.{◌≡◌, ◌≤◌, length, Ok, IfOk};
 ghost use Rattle.doll_expr.specs.declared.expr.Expr.{Expr};
+ghost use Rattle.doll_expr.specs.Faults.{Faults};
 ghost use Rattle.doll_expr.specs.Gives.{Gives};
 ghost use Rattle.doll_expr.specs.Grammar.{IsExpr, OneTree};
 ghost use Rattle.doll_expr.specs.Reading.{expr_of};
+ghost use Rattle.doll_expr.specs.Tokens.{tokens_of};
 
 use crate::expr::{Expr, ExprFault};
 use crate::lex::tokens_of;
@@ -18,7 +20,9 @@ pub fn parse_expr(alloc: Global, text: &str) -> Result<Expr, ExprFault>
     ensures found { IfOk result (λ e. IsExpr text.now e) }
     // Each sentence of the grammar is accepted with its tree, unless memory runs out.
     ensures only { (e : Expr) → IsExpr text.now e → Gives ExprFault.Memory (Ok e) result }
-    // Which fault it is.
+    // A fault is that of the first token with which no sentence goes on, unless memory ran out.
+    ensures fault { Faults (tokens_of text.now) result }
+    // The same as one equation: what reading from the left gives.
     ensures exact { Gives ExprFault.Memory (expr_of text.now) result }
 {
     parse_expr_bytes(alloc, text.as_bytes())
@@ -29,6 +33,7 @@ pub fn parse_expr_bytes(alloc: Global, bytes: &[u8]) -> Result<Expr, ExprFault>
     requires { length bytes.now ≤ 262144 }
     ensures found { IfOk result (λ e. IsExpr bytes.now e) }
     ensures only { (e : Expr) → IsExpr bytes.now e → Gives ExprFault.Memory (Ok e) result }
+    ensures fault { Faults (tokens_of bytes.now) result }
     ensures exact { Gives ExprFault.Memory (expr_of bytes.now) result }
 {
     read_bytes(alloc, bytes)

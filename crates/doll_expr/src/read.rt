@@ -297,7 +297,8 @@ fn asked(alloc: Global, of: Expr, query: Query) -> Result<Option<Expr>, Memory>
     Ok(Some(Expr::Ask(of, query)))
 }
 
-fn place(tokens: &[Token]) -> u32
+/// The place of the first token, 0 where there is none.
+pub fn place(tokens: &[Token]) -> u32
     ensures { result ≡ spec.place tokens.now }
 {
     match tokens {
@@ -306,7 +307,8 @@ fn place(tokens: &[Token]) -> u32
     }
 }
 
-fn rest_of(tokens: &[Token]) -> &[Token]
+/// The tokens behind the first.
+pub fn rest_of(tokens: &[Token]) -> &[Token]
     ensures { result.now ≡ drop 1 tokens.now }
 {
     match tokens {
@@ -340,7 +342,8 @@ fn sign(tokens: &[Token]) -> Option<Sign>
     }
 }
 
-fn is_end(tokens: &[Token]) -> bool
+/// Whether the end is all that is left.
+pub fn is_end(tokens: &[Token]) -> bool
     ensures { result ≡ (spec.is_end (spec.first_kind tokens.now) && length tokens.now == 1) }
 {
     let [token] = tokens else {

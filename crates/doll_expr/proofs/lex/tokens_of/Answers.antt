@@ -1,7 +1,7 @@
-use Rattle.std.proofs.Common.{◌≡◌, ◌≢◌, ◌+◌, ◌<◌, ◌++◌, ◌∷◌, [], length, drop, Ok, Err, sym, ap, ◌∙◌, arith, rules}
+use Rattle.std.proofs.Common.{◌≡◌, ◌+◌, ◌<◌, length, Ok, Err, ap, ◌∙◌, arith, rules}
 use Rattle.std.proofs.lemmas.Grind.{common_steps}
 use Rattle.std.proofs.lemmas.List.{length-drop}
-use Rattle.doll_expr.specs.Tokens.{tokens_of, tokens_from, at_most, token, front}
+use Rattle.doll_expr.specs.Tokens.{tokens_of, front}
 use Rattle.doll_expr.proofs.Lexed.{Next, starts, at_end, at_fault, no_room_left, one_more}
 use Rattle.doll_expr.proofs.lex.tokens_of.Goals as goal
 

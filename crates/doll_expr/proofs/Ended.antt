@@ -1,0 +1,149 @@
+-- The tokens of a text end in its end or in a fault, which stand nowhere else.
+use Rattle.std.proofs.Common.{◌≡◌, ℕ, zero, suc, ◌+◌, ◌-◌, ◌^◌, ◌==◌, ◌||◌, pos, nat_lt, length, take, get_or, Bool, true, false, cond, List, [], ◌∷◌, ◌++◌, drop, Option, Some, None, Result, Ok, Err, refl, sym, ap, ◌∙◌, inl, inr}
+use Rattle.std.specs.Char.{is_ascii_digit}
+use Rattle.std.specs.List.{take_while}
+use Rattle.std.proofs.lemmas.Bool.{cases_Bool}
+use Rattle.doll_expr.specs.declared.expr.ExprFault.{ExprFault}
+use Rattle.doll_expr.specs.declared.expr.ExprFault.TheVariants.{TooDeep, NumberTooLarge, Unexpected}
+use Rattle.doll_expr.specs.declared.expr.Query.{Query}
+use Rattle.doll_expr.specs.declared.token.Mark.{Mark}
+use Rattle.doll_expr.specs.declared.token.Word.{Word}
+use Rattle.doll_expr.specs.declared.token.Token.{Token}
+use Rattle.doll_expr.specs.declared.token.TokenKind.TheVariants as kind
+use Rattle.doll_expr.specs.Names.{is_lower, is_word_byte, word_of, is_name}
+use Rattle.doll_expr.specs.Tokens.{Front, decimal, question, name_from, closing, quoted, mark_of, number_from, number_at, plain_word, word_from, word_at, name_at, text_of, text_from, text_at, mark_from, front, is_space, is_dot, is_last, token, followed, tokens_from, beyond, at_most, tokens_of}
+use Rattle.doll_expr.specs.Reading.{first_kind, place}
+use Rattle.doll_expr.proofs.Shapes.{Plain}
+
+abbrev pub Ended : List Token → Type 0
+Ended [] = ⊥
+Ended (t ∷ []) = is_last t.kind ≡ true
+Ended (t ∷ u ∷ ts) = (is_last t.kind ≡ false) × Ended (u ∷ ts)
+
+pub ended_rest : (ts : List Token) → Ended ts → is_last (first_kind ts) ≡ false → Ended (drop 1 ts)
+ended_rest [] e h = absurd e
+ended_rest (t ∷ []) e h = absurd (let f : true ≡ false = sym e ∙ h in cc)
+ended_rest (t ∷ u ∷ ts) e h = e.1
+
+pub ended_behind : (us rest : List Token) → Plain us → Ended (us ++ rest) → Ended rest
+ended_behind [] rest p e = e
+ended_behind (t ∷ us) rest p e = ended_behind us rest p.1 (ended_rest (t ∷ (us ++ rest)) e p.0)
+
+pub some_left : (ts : List Token) → Ended ts → ts ≡ token (first_kind ts) (place ts) ∷ drop 1 ts
+some_left [] e = absurd e
+some_left (t ∷ ts) e = refl
+
+pub last_left : (t : Token) (ts : List Token) → Ended (t ∷ ts) → is_last t.kind ≡ true → ts ≡ []
+last_left t [] e h = refl
+last_left t (u ∷ ts) e h = absurd (let f : true ≡ false = sym h ∙ e.0 in cc)
+
+ended_cons : (t : Token) (ts : List Token) → is_last t.kind ≡ false → Ended ts → Ended (t ∷ ts)
+ended_cons t [] h e = absurd e
+ended_cons t (u ∷ ts) h e = (h, e)
+
+-- ---- a token that is cut is no end and no fault
+
+abbrev IsPlain : Front → Type 0
+IsPlain (Ok found) = is_last found.0 ≡ false
+IsPlain (Err fault) = Unit {0}
+
+plain_cond : (b : Bool) (x y : Front) → IsPlain x → IsPlain y → IsPlain (cond b x y)
+plain_cond true x y p q = p
+plain_cond false x y p q = q
+
+digits_plain : (at : ℕ) (digits : List ℕ) → IsPlain (number_from at digits)
+digits_plain at digits = plain_cond (nat_lt (decimal digits) (2 ^ 63)) (Ok (kind.Number (pos (decimal digits)), length digits)) (Err (NumberTooLarge at)) refl tt
+
+number_plain : (at : ℕ) (bytes : List ℕ) → IsPlain (number_at at bytes)
+unfolding number_at
+number_plain at bytes = digits_plain at (take_while is_ascii_digit bytes)
+
+known_plain : (at : ℕ) (word : List ℕ) (o : Option Word) → IsPlain (plain_word at word o)
+known_plain at word (Some known) = refl
+known_plain at word None = plain_cond (is_name word) (Ok (kind.Name word, length word)) (Err (Unexpected at)) refl tt
+
+asked_plain : (at : ℕ) (word : List ℕ) (o : Option Query) → IsPlain (word_from at word o)
+asked_plain at word (Some asked) = refl
+asked_plain at word None = known_plain at word (word_of word)
+
+word_plain : (dot : Bool) (at : ℕ) (bytes : List ℕ) → IsPlain (word_at dot at bytes)
+unfolding word_at
+word_plain dot at bytes = asked_plain at (take_while is_word_byte bytes) (question dot (take_while is_word_byte bytes) bytes)
+
+behind_sign_plain : (at : ℕ) (word : List ℕ) → IsPlain (name_from at word)
+behind_sign_plain at word = plain_cond (is_name word) (Ok (kind.Name word, length word + 1)) (Err (Unexpected at)) refl tt
+
+name_plain : (at : ℕ) (bytes : List ℕ) → IsPlain (name_at at bytes)
+unfolding name_at
+name_plain at bytes = behind_sign_plain at (take_while is_word_byte bytes)
+
+body_plain : (len : ℕ) (r : Result (List ℕ) ExprFault) → IsPlain (text_of len r)
+body_plain len (Ok bytes) = refl
+body_plain len (Err fault) = tt
+
+closed_plain : (quote at : ℕ) (bytes : List ℕ) (o : Option ℕ) → IsPlain (text_from quote at bytes o)
+closed_plain quote at bytes None = tt
+closed_plain quote at bytes (Some len) = body_plain len (quoted quote at (take len bytes))
+
+text_plain : (quote at : ℕ) (bytes : List ℕ) → IsPlain (text_at quote at bytes)
+unfolding text_at
+text_plain quote at bytes = closed_plain quote at bytes (closing quote false 0 bytes)
+
+mark_plain : (at : ℕ) (o : Option (Mark × ℕ)) → IsPlain (mark_from at o)
+mark_plain at (Some found) = refl
+mark_plain at None = tt
+
+others_plain : (at b : ℕ) (bytes : List ℕ) → IsPlain (cond (b == 34 || b == 39) (text_at b at (drop 1 bytes)) (mark_from at (mark_of b (get_or bytes 1 0))))
+others_plain at b bytes = plain_cond (b == 34 || b == 39) (text_at b at (drop 1 bytes)) (mark_from at (mark_of b (get_or bytes 1 0))) (text_plain b at (drop 1 bytes)) (mark_plain at (mark_of b (get_or bytes 1 0)))
+
+named_plain : (at b : ℕ) (bytes : List ℕ) (other : Front) → IsPlain other → IsPlain (cond (b == 64) (name_at at (drop 1 bytes)) other)
+named_plain at b bytes other h = plain_cond (b == 64) (name_at at (drop 1 bytes)) other (name_plain at (drop 1 bytes)) h
+
+word_or_plain : (dot : Bool) (at b : ℕ) (bytes : List ℕ) (other : Front) → IsPlain other → IsPlain (cond (is_lower b) (word_at dot at bytes) other)
+word_or_plain dot at b bytes other h = plain_cond (is_lower b) (word_at dot at bytes) other (word_plain dot at bytes) h
+
+number_or_plain : (at b : ℕ) (bytes : List ℕ) (other : Front) → IsPlain other → IsPlain (cond (is_ascii_digit b) (number_at at bytes) other)
+number_or_plain at b bytes other h = plain_cond (is_ascii_digit b) (number_at at bytes) other (number_plain at bytes) h
+
+front_plain : (dot : Bool) (at : ℕ) (bytes : List ℕ) → IsPlain (front dot at bytes)
+unfolding front
+front_plain dot at bytes =
+    let b = get_or bytes 0 0 in
+    let other : Front = cond (b == 34 || b == 39) (text_at b at (drop 1 bytes)) (mark_from at (mark_of b (get_or bytes 1 0))) in
+    let named : Front = cond (b == 64) (name_at at (drop 1 bytes)) other in
+    let word : Front = cond (is_lower b) (word_at dot at bytes) named in
+    number_or_plain at b bytes word (word_or_plain dot at b bytes named (named_plain at b bytes other (others_plain at b bytes)))
+
+ended_cond : (b : Bool) (x y : List Token) → Ended x → Ended y → Ended (cond b x y)
+ended_cond true x y p q = p
+ended_cond false x y p q = q
+
+followed_ended : (at : ℕ) (others : Bool → ℕ → List Token) (f : Front) → IsPlain f → ((d : Bool) (left : ℕ) → Ended (others d left)) → Ended (followed at others f)
+followed_ended at others (Ok found) p e = ended_cons (token found.0 at) (others (is_dot found.0) (found.1 - 1)) p (e (is_dot found.0) (found.1 - 1))
+followed_ended at others (Err fault) p e = refl
+
+tokens_ended : (dot : Bool) (at left : ℕ) (bytes : List ℕ) → Ended (tokens_from dot at left bytes)
+unfolding tokens_from
+tokens_ended dot at left [] = refl
+tokens_ended dot at (suc left) (b ∷ bytes) = tokens_ended dot (at + 1) left bytes
+tokens_ended dot at zero (b ∷ bytes) =
+    ended_cond (is_space b) (tokens_from dot (at + 1) 0 bytes) (followed at (λ d left. tokens_from d (at + 1) left bytes) (front dot at (b ∷ bytes))) (tokens_ended dot (at + 1) 0 bytes)
+    (followed_ended at (λ d left. tokens_from d (at + 1) left bytes) (front dot at (b ∷ bytes)) (front_plain dot at (b ∷ bytes)) (λ d left. tokens_ended d (at + 1) left bytes))
+
+beyond_last : (t : Token) → is_last (beyond t).kind ≡ true
+beyond_last t =
+    elim (cases_Bool (is_last t.kind)) [
+      | inl last ↦ ap (λ (b : Bool). is_last (cond b t (token (kind.Fault (TooDeep t.at)) t.at)).kind) last ∙ last
+      | inr other ↦ ap (λ (b : Bool). is_last (cond b t (token (kind.Fault (TooDeep t.at)) t.at)).kind) other
+    ]
+
+most_ended : (n : ℕ) (ts : List Token) → Ended ts → Ended (at_most n ts)
+unfolding at_most
+most_ended n [] e = absurd e
+most_ended zero (t ∷ ts) e = beyond_last t
+most_ended (suc n) (t ∷ []) e = e
+most_ended (suc n) (t ∷ u ∷ ts) e = ended_cons t (at_most n (u ∷ ts)) e.0 (most_ended n (u ∷ ts) e.1)
+
+pub text_ended : (text : List ℕ) → Ended (tokens_of text)
+unfolding tokens_of
+text_ended text = most_ended 200 (tokens_from false 0 0 text) (tokens_ended false 0 0 text)
