@@ -2,6 +2,5 @@ pub mod Drafts
 pub mod Escape
 pub mod Json
 pub mod Limits
-pub mod Names
 pub mod Schemas
 pub mod Steps

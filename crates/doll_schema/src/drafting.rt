@@ -13,8 +13,7 @@ use crate::draft::{ManyDraft, ManyDrafts, ModelDraft, ModelDrafts, ParentDraft, 
 use crate::fault::{Part, Place, SchemaFault};
 use crate::json::{bool_or, has_only, list_at, list_or_empty, text_at};
 use crate::model::{Attribute, Attributes, Kind};
-use crate::names::is_name;
-use doll_expr::{Items, Memory, Name, Text};
+use doll_expr::{Items, Memory, Name, Text, is_name};
 use serde_json::Value;
 use std::alloc::Global;
 

@@ -8,7 +8,6 @@ pub mod fault;
 pub mod json;
 pub mod linking;
 pub mod model;
-pub mod names;
 pub mod value;
 
 pub use escaping::{escape, escape_bytes};
