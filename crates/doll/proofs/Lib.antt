@@ -1,3 +1,5 @@
 pub mod Digits
+pub mod Fitting
+pub mod Growth
 pub mod Members
 pub mod Views

@@ -1,6 +1,6 @@
 -- Commits that create records of the one model (this project's own).
-use Rattle.std.specs.Prelude.{ℕ, ◌+◌, ◌^◌, Bool, true, false, not, ◌&&◌, ◌==◌, List, [], ◌∷◌, map, find, reverse, min, max, bytes_eq, Option, None, Some, option_map, Result, Ok, Err, if◌then◌else◌}
-use Rattle.std.specs.List.{list_any}
+use Rattle.std.specs.Prelude.{ℕ, ◌+◌, ◌^◌, Bool, true, false, not, ◌&&◌, ◌||◌, ◌==◌, List, [], ◌∷◌, map, min, max, bytes_eq, Option, None, Some, option_map, Result, Ok, Err, if◌then◌else◌}
+use Rattle.std.specs.List.{list_all, list_any}
 use Rattle.std.specs.Option.{option_map_or}
 use Rattle.doll_schema.specs.declared.model.Attribute.{Attribute}
 use Rattle.doll_schema.specs.declared.model.Model.{Model}
@@ -16,17 +16,34 @@ use Rattle.doll.specs.declared.refusal.Kind.TheVariants as kind
 abbrev pub Given : Type 0
 Given = List (List ℕ × Value)
 
--- the value that a name is given, the last where it stands twice, else nil
+-- the value that a name is given, else nil; JSON gives a name once
 abbrev pub given_value : Given → List ℕ → Value
-given_value given name = option_map_or (λ (pair : List ℕ × Value). pair.1) (find (λ (pair : List ℕ × Value). bytes_eq pair.0 name) (reverse given)) value.Nil
+given_value [] name = value.Nil
+given_value (pair ∷ pairs) name = if bytes_eq pair.0 name then pair.1 else given_value pairs name
+
+-- the value of a pair, nil where there is none
+abbrev pub value_of_pair : Option (List ℕ × Value) → Value
+value_of_pair None = value.Nil
+value_of_pair (Some pair) = pair.1
 
 abbrev pub is_nil : Value → Bool
 is_nil value.Nil = true
 is_nil other = false
 
--- what is wrong with a given value: its name is no attribute's, or it isn't of the attribute's kind
+-- a value's name is an attribute's
+abbrev pub names_attribute : List ℕ × Value → Attribute → Bool
+names_attribute pair a = bytes_eq pair.0 a.name
+
+-- a value is of the attribute's kind, if it is the attribute's
+abbrev pub suits : List ℕ × Value → Attribute → Bool
+suits pair a = not (names_attribute pair a) || has_kind a.kind pair.1
+
+-- what is wrong with a given value: its name is no attribute's, or it isn't of the kind of its attribute
 abbrev pub pair_fault : Model → List ℕ × Value → Option Kind
-pair_fault model pair = option_map_or (λ (a : Attribute). if has_kind a.kind pair.1 then None else Some kind.WrongKind) (find (λ (a : Attribute). bytes_eq a.name pair.0) model.attributes) (Some kind.UnknownAttribute)
+pair_fault model pair =
+    if list_any (names_attribute pair) model.attributes
+    then (if list_all (suits pair) model.attributes then None else Some kind.WrongKind)
+    else Some kind.UnknownAttribute
 
 -- the first fault of the values, in order
 abbrev pub first_fault : Model → Given → Option Kind
@@ -61,14 +78,6 @@ created_row model given moment = record {
 -- the table with the record under the next id of the one model
 abbrev pub with_created : TableMap → Row → TableMap
 with_created table row = let id = next_of table 0 in put_next (put_row table 0 id row) 0 (id + 1)
-
--- a creation made, or why it isn't
-abbrev pub created_unless : Option Kind → TableMap → Result TableMap Kind
-created_unless None table = Ok table
-created_unless (Some fault) table = Err fault
-
-abbrev pub created : Model → ℕ → TableMap → List ℕ → Given → Result TableMap Kind
-created model moment table name given = created_unless (creation_fault model (next_of table 0) name given) (with_created table (created_row model given moment))
 
 -- the moment of a commit that is asked for at a time, after the last one
 abbrev pub moment_of : ℕ → ℕ → ℕ

@@ -1,15 +1,14 @@
 //! Commits that create records of the one model.
 
-ghost use Rattle.std.specs.Prelude.{◌≡◌, ◌<◌, ◌^◌, ◌≤◌, ℕ, List, map, find, reverse, bytes_eq, length, slice_get, IfOk, Some};
+ghost use Rattle.std.specs.Prelude.{◌≡◌, IfOk};
+ghost use Rattle.std.specs.List.{list_all, list_any};
 ghost use Rattle.std.specs.Option.{option_copied};
-ghost use Rattle.doll_schema.specs.declared.model.Attribute.{Attribute};
-ghost use Rattle.doll_schema.specs.declared.value.Value.{Value};
 ghost use Rattle.doll_table.specs.Fits.{has_kind};
-ghost use Rattle.doll.specs.Creates.{given_value, is_nil, pair_fault, first_fault, lacks_value, values_fault, creation_fault, created_row};
+ghost use Rattle.doll.specs.Creates.{given_value, value_of_pair, is_nil, names_attribute, suits, pair_fault, first_fault, lacks_value, creation_fault, created_row};
 
 use crate::refusal::Kind;
 use doll_expr::{Copied, Items, Memory, Name};
-use doll_schema::{Attribute, Model, Row, Value};
+use doll_schema::{Model, Row, Value};
 use std::alloc::Global;
 
 /// The id after which there is none.
@@ -34,18 +33,25 @@ fn has_kind(kind: doll_schema::Kind, value: &Value) -> bool
     }
 }
 
-/// The last value that a name is given.
-fn last_given<'a>(given: &'a [(Name, Value)], name: &[u8]) -> Option<&'a (Name, Value)>
-    ensures { option_copied result ≡ find (λ (pair : List ℕ × Value). bytes_eq pair.0 name.now) (reverse given.now) }
+/// What a name is given.
+fn pair_named<'a>(given: &'a [(Name, Value)], name: &[u8]) -> Option<&'a (Name, Value)>
+    ensures { given_value given.now name.now ≡ value_of_pair (option_copied result) }
 {
-    given.iter().rev().find(|pair| pair.0.as_bytes() == name)
+    let mut rest = given;
+    while let [pair, more @ ..] = rest {
+        if pair.0.as_bytes() == name {
+            return Some(pair);
+        }
+        rest = more;
+    }
+    None
 }
 
 /// A copy of the value that a name is given, nil where it is given none.
 fn given_value(alloc: Global, given: &[(Name, Value)], name: &[u8]) -> Result<Value, Memory>
     ensures { IfOk result (λ value. value ≡ given_value given.now name.now) }
 {
-    match last_given(given, name) {
+    match pair_named(given, name) {
         Some(pair) => pair.1.copy(alloc),
         None => Ok(Value::Nil),
     }
@@ -54,35 +60,47 @@ fn given_value(alloc: Global, given: &[(Name, Value)], name: &[u8]) -> Result<Va
 fn is_given_nil(given: &[(Name, Value)], name: &[u8]) -> bool
     ensures { result ≡ is_nil (given_value given.now name.now) }
 {
-    match last_given(given, name) {
+    match pair_named(given, name) {
         Some(pair) => is_nil(&pair.1),
         None => true,
     }
 }
 
-/// The attribute with a name.
-fn attribute_named<'a>(model: &'a Model, name: &[u8]) -> Option<&'a Attribute>
-    ensures { option_copied result ≡ find (λ (a : Attribute). bytes_eq a.name name.now) model.now.attributes }
+/// Whether a value's name is an attribute's.
+fn is_known(model: &Model, pair: &(Name, Value)) -> bool
+    ensures { result ≡ list_any (names_attribute pair.now) model.now.attributes }
 {
-    model
-        .attributes
-        .as_slice()
-        .iter()
-        .find(|attribute| attribute.name.as_bytes() == name)
+    for attribute in model.attributes.as_slice() {
+        if pair.0.as_bytes() == attribute.name.as_bytes() {
+            return true;
+        }
+    }
+    false
+}
+
+/// Whether a value is of the kind of each attribute of its name.
+fn suits_all(model: &Model, pair: &(Name, Value)) -> bool
+    ensures { result ≡ list_all (suits pair.now) model.now.attributes }
+{
+    for attribute in model.attributes.as_slice() {
+        if pair.0.as_bytes() == attribute.name.as_bytes() && !has_kind(attribute.kind, &pair.1) {
+            return false;
+        }
+    }
+    true
 }
 
 /// What is wrong with a given value.
 fn pair_fault(model: &Model, pair: &(Name, Value)) -> Option<Kind>
     ensures { result ≡ pair_fault model.now pair.now }
 {
-    let Some(attribute) = attribute_named(model, pair.0.as_bytes()) else {
+    if !is_known(model, pair) {
         return Some(Kind::UnknownAttribute);
-    };
-    if has_kind(attribute.kind, &pair.1) {
-        None
-    } else {
-        Some(Kind::WrongKind)
     }
+    if !suits_all(model, pair) {
+        return Some(Kind::WrongKind);
+    }
+    None
 }
 
 /// The first fault of the values, in order.
