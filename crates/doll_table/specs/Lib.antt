@@ -1,3 +1,4 @@
 pub mod Tables
 pub mod Looks
 pub mod Fits
+pub mod Links

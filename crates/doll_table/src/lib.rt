@@ -1,6 +1,7 @@
 //! Rows by model and id.
 #![tactic(auto)]
 
+mod links;
 pub mod rows;
 
 pub use rows::{Assoc, Rows};
