@@ -1,11 +1,12 @@
 //! The links of a model's rows to their parents, in one order, so that a parent's children stand together.
 
-ghost use Rattle.std.specs.Prelude.{◌≡◌, [], ℕ, ◌+◌, ◌*◌, ◌^◌, ◌<◌, ◌≤◌, ◌&&◌, ◌==◌, not, length, map, filter, slice_index, vec_len, vec_capacity, MatchResult, nat_le, nat_lt, IfOk, OnOk, T};
+ghost use Rattle.std.specs.Prelude.{◌≡◌, [], ℕ, ◌+◌, ◌*◌, ◌^◌, ◌<◌, ◌≤◌, ◌&&◌, ◌==◌, not, length, map, filter, slice_index, vec_len, vec_capacity, MatchResult, nat_le, nat_lt, IfOk, OnOk, T, if◌then◌else◌};
 ghost use Rattle.std.specs.Ordering.{nat_cmp, eq_by_cmp};
-ghost use Rattle.std.specs.FinMap.Entries.{put, where_key, is_sorted};
-ghost use Rattle.doll_table.specs.Links.{linked, child_of, link_of};
+ghost use Rattle.std.specs.FinMap.Entries.{find, put, where_key, is_sorted};
+ghost use Rattle.doll_table.specs.Links.{linked, child_of, link_of, has_link};
 
 use doll_expr::Memory;
+use doll_schema::Row;
 use std::alloc::Global;
 
 /// Links in ascending order, each with its child beside it.
@@ -63,12 +64,11 @@ impl Links {
 
     /// Adds a link, for which there is room.
     pub fn insert(&mut self, place: usize, parent: u32, child: u32)
-        ghost count: { ℕ }
-        requires room { vec_len self.old.links + (count + 1) ≤ vec_capacity self.old.links }
-        requires children_room { vec_len self.old.children + (count + 1) ≤ vec_capacity self.old.children }
+        requires room { vec_len self.old.links < vec_capacity self.old.links }
+        requires children_room { vec_len self.old.children < vec_capacity self.old.children }
         ensures links { let link = link_of place parent child in linked self.new.links.items ≡ put nat_cmp link (child_of link) (linked self.old.links.items) }
-        ensures room { vec_len self.new.links + count ≤ vec_capacity self.new.links }
-        ensures children_room { vec_len self.new.children + count ≤ vec_capacity self.new.children }
+        ensures room { (count : ℕ) → vec_len self.old.links + (count + 1) ≤ vec_capacity self.old.links → vec_len self.new.links + count ≤ vec_capacity self.new.links }
+        ensures children_room { (count : ℕ) → vec_len self.old.children + (count + 1) ≤ vec_capacity self.old.children → vec_len self.new.children + count ≤ vec_capacity self.new.children }
     {
         let link = link_of(place, parent, child);
         if let Err(at) = seek(self.links.as_slice(), link) {
@@ -111,5 +111,31 @@ fn bound(links: &[u128], link: u128) -> usize
     match seek(links, link) {
         Ok(at) => at,
         Err(at) => at,
+    }
+}
+
+/// Adds the links of a record, for which there is room.
+pub fn link(links: &mut Links, row: &Row, id: u32)
+    requires room { vec_len links.old.links + length row.now.parents ≤ vec_capacity links.old.links }
+    requires children_room { vec_len links.old.children + length row.now.parents ≤ vec_capacity links.old.children }
+    ensures { (q : ℕ) → find nat_cmp q (linked links.new.links.items) ≡ (if child_of q == id && has_link q row.now then Some (child_of q) else find nat_cmp q (linked links.old.links.items)) }
+{
+    for (place, parent) in row.parents.as_slice().iter().enumerate() {
+        if let Some(parent) = parent {
+            links.insert(place, *parent, id);
+        }
+    }
+}
+
+/// Takes the links of a record away.
+pub fn unlink(links: &mut Links, row: &Row, id: u32)
+    ensures links { (q : ℕ) → find nat_cmp q (linked links.new.links.items) ≡ (if child_of q == id && has_link q row.now then None else find nat_cmp q (linked links.old.links.items)) }
+    ensures room { (count : ℕ) → vec_len links.old.links + count ≤ vec_capacity links.old.links → vec_len links.new.links + count ≤ vec_capacity links.new.links }
+    ensures children_room { (count : ℕ) → vec_len links.old.children + count ≤ vec_capacity links.old.children → vec_len links.new.children + count ≤ vec_capacity links.new.children }
+{
+    for (place, parent) in row.parents.as_slice().iter().enumerate() {
+        if let Some(parent) = parent {
+            links.remove(place, *parent, id);
+        }
     }
 }
