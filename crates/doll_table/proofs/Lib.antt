@@ -1,3 +1,5 @@
 pub mod Placed
 pub mod Linked
 pub mod Linking
+pub mod Children
+pub mod Kept
