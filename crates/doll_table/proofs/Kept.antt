@@ -1,5 +1,5 @@
 -- A model's rows beside their ids, as a map, and what an edit makes of it.
-use Rattle.std.proofs.Common.{◌≡◌, ℕ, zero, suc, ◌+◌, ◌-◌, ◌^◌, ◌<◌, ◌≤◌, Bool, true, false, not, cond, ◌&&◌, List, [], ◌∷◌, ◌++◌, map, filter, length, get_or, take, drop, set, Option, Some, None, eqb, refl, sym, ◌∙◌, ap, subst, arith, ◌⊎◌, inl, inr}
+use Rattle.std.proofs.Common.{◌≡◌, ℕ, zero, suc, ◌+◌, ◌-◌, ◌^◌, ◌<◌, ◌≤◌, Bool, true, false, not, cond, ◌&&◌, List, [], ◌∷◌, ◌++◌, map, filter, length, get_or, take, drop, set, Option, Some, None, eqb, leb, ltb, refl, sym, ◌∙◌, ap, subst, arith, ◌⊎◌, inl, inr}
 use Rattle.std.specs.Prelude.{T}
 use Rattle.std.specs.List.{insert, remove, zip}
 use Rattle.std.specs.Option.{option_map_or}
@@ -14,9 +14,11 @@ use Rattle.std.proofs.lemmas.Bool.{cases_order}
 use Rattle.std.proofs.lemmas.Slice.Zip.{length-zip, get_or-zip, firsts-zip}
 use Rattle.std.proofs.lemmas.Bool.Decides.{nat_tests}
 use Rattle.doll_schema.specs.declared.value.Row.{Row}
-use Rattle.doll_table.specs.Links.{linked, child_of, has_link, linked_child, AreLinked, AreKept}
+use Rattle.doll_table.specs.Tables.{Extent, names_parent}
+use Rattle.doll_table.specs.Links.{linked, link_of, child_of, has_link, linked_child, AreLinked, AreKept}
 use Rattle.doll_table.proofs.Placed.{found_at, put_at, without_at, put_between, missed_between, without_between, rise}
 use Rattle.doll_table.proofs.Linked.{WouldGo}
+use Rattle.doll_table.proofs.Children.{children_are}
 
 -- the map of entries in order
 abbrev pub as_map : List ℕ → List Row → finite.FinMap nat_cmp Row
@@ -226,3 +228,66 @@ module _ (ids : List ℕ) (rows : List Row) (links : List ℕ) (kept : AreKept i
       by_test : (q : ℕ) (b : Bool) → eqb q id ≡ b → finite.get (as_map ids rows) q ≡ cond (eqb q id) None (finite.get (as_map ids rows) q)
       by_test q true t = rw t (ap (finite.get (as_map ids rows)) (here q t) ∙ map_missed i id h)
       by_test q false t = rw t refl
+
+-- these laws as the code meets them: s is the slice of the ids that was searched, and extent is what is seen of the rows
+
+pub no_rows : (ids : List ℕ) (rows : List Row) → ids ≡ [] → rows ≡ [] → as_map ids rows ≡ finite.empty
+no_rows ids rows e f =
+  rw e (finite.same_map nat_cmp_total finite.nat_cmp-IsAntisymmetric (as_map [] rows) finite.empty (λ q. finite.get-from_sorted nat_cmp (zip [] rows) q tt ∙ sym (finite.get-empty nat_cmp q)))
+
+module _ (ids : List ℕ) (rows : List Row) (links : List ℕ) (kept : AreKept ids rows links) (s : List ℕ) (same : s ≡ ids) where
+  pub rise_searched : (i j : ℕ) → i ≤ j → j < length s → get_or s i 0 ≤ get_or s j 0
+  rise_searched i j o l = rw same (ids_rise ids rows links kept i j o (rw same at l))
+
+  pub row_found : (extent : Extent) (i id : ℕ) (o : Row) → as_map ids rows ≡ extent.rows → (i < length s) × (get_or s i 0 ≡ id) → o ≡ get_or rows i o → Some o ≡ finite.get extent.rows id
+  row_found extent i id o is h at =
+    ap Some at ∙ (sym (map_found ids rows links kept i id o (rw same at h.0) (rw same at h.1)) ∙ ap (λ m. finite.get m id) is)
+
+  pub row_missed : (extent : Extent) (i id : ℕ) → as_map ids rows ≡ extent.rows → WouldGo s id i → None ≡ finite.get extent.rows id
+  row_missed extent i id is h =
+    sym (map_missed ids rows links kept i id (rw same at h.0, rw same at h.1, rw same at h.2)) ∙ ap (λ m. finite.get m id) is
+
+  pub keys_are : (extent : Extent) → as_map ids rows ≡ extent.rows → s ≡ finite.keys extent.rows
+  keys_are extent is = same ∙ (sym (map_keys ids rows links kept) ∙ ap finite.keys is)
+
+  -- the children of a record, by the range of its links
+  pub children_listed : (extent : Extent) (place parent : ℕ) (found : List ℕ) → as_map ids rows ≡ extent.rows → ((k : ℕ) → get_or s k 0 < 2 ^ 32) → parent < 2 ^ 32 → T (is_sorted nat_cmp (linked links))
+    → found ≡ map (λ (e : ℕ × ℕ). e.1) (filter (λ (e : ℕ × ℕ). leb (link_of place parent 0) e.0 && ltb e.0 (link_of place parent 0 + 2 ^ 32)) (linked links))
+    → found ≡ map (λ (e : ℕ × Row). e.0) (filter (λ (e : ℕ × Row). names_parent place parent e.1) (finite.entries extent.rows))
+  children_listed extent place parent found is small hp sorted at =
+    at ∙ (children_are (zip ids rows) links place parent kept.sorted sorted kept.links
+      (λ j d l. let inside : j < length ids = omega (arith, length_both ids rows kept.long) in rw (id_at ids rows j d kept.long inside, ← same) (small j)) hp
+    ∙ ap (λ es. map (λ (e : ℕ × Row). e.0) (filter (λ (e : ℕ × Row). names_parent place parent e.1) es)) (sym (finite.entries-from_sorted nat_cmp (zip ids rows) kept.sorted) ∙ ap finite.entries is))
+
+pub extent_is : (m n : finite.FinMap nat_cmp Row) (a b : ℕ) → m ≡ n → a ≡ b → ◌≡◌ {A = Extent} (record { rows = m; next = a }) (record { rows = n; next = b })
+extent_is m n a b e f = λ i. record { rows = e i; next = f i }
+
+-- the same in columns that were moved for room
+pub kept_along : (ids js : List ℕ) (rows ss : List Row) (links ms : List ℕ) → js ≡ ids → ss ≡ rows → ms ≡ links → AreKept ids rows links → AreKept js ss ms
+kept_along ids js rows ss links ms e f g kept = subst (λ x. AreKept x ss ms) (sym e) (subst (λ y. AreKept ids y ms) (sym f) (subst (λ z. AreKept ids rows z) (sym g) kept))
+
+pub map_along : (ids js : List ℕ) (rows ss : List Row) (m : finite.FinMap nat_cmp Row) → js ≡ ids → ss ≡ rows → as_map ids rows ≡ m → as_map js ss ≡ m
+map_along ids js rows ss m e f is = ap (λ x. as_map x ss) e ∙ (ap (λ y. as_map ids y) f ∙ is)
+
+module _ (ids : List ℕ) (rows : List Row) (links : List ℕ) (kept : AreKept ids rows links) (s : List ℕ) (same : s ≡ ids) (extent : Extent) (is : as_map ids rows ≡ extent.rows) where
+  pub replaced : (i id : ℕ) (o row : Row) (ms ns : List ℕ) → (i < length s) × (get_or s i 0 ≡ id) → o ≡ get_or rows i o
+    → ((q : ℕ) → find nat_cmp q (linked ms) ≡ cond (eqb (child_of q) id && has_link q o) None (find nat_cmp q (linked links)))
+    → ((q : ℕ) → find nat_cmp q (linked ns) ≡ cond (eqb (child_of q) id && has_link q row) (Some (child_of q)) (find nat_cmp q (linked ms)))
+    → Leaves ids (set rows i row) ns (finite.insert extent.rows id row)
+  replaced i id o row ms ns h at lost gained =
+    subst (λ m. Leaves ids (set rows i row) ns (finite.insert m id row)) is (put_there ids rows links kept i id o row ms ns (rw same at h.0) (rw same at h.1) at lost gained)
+
+  pub gained : (i id : ℕ) (row : Row) (ns js : List ℕ) (ss : List Row) → WouldGo s id i
+    → ((q : ℕ) → find nat_cmp q (linked ns) ≡ cond (eqb (child_of q) id && has_link q row) (Some (child_of q)) (find nat_cmp q (linked links)))
+    → js ≡ insert ids i id → ss ≡ insert rows i row → Leaves js ss ns (finite.insert extent.rows id row)
+  gained i id row ns js ss h linked_now ids_now rows_now =
+    rw (ids_now, rows_now) (subst (λ m. Leaves (insert ids i id) (insert rows i row) ns (finite.insert m id row)) is (put_new ids rows links kept i id row ns (rw same at h.0, rw same at h.1, rw same at h.2) linked_now))
+
+  pub lost : (i id : ℕ) (o : Row) (ms js : List ℕ) (ss : List Row) → (i < length s) × (get_or s i 0 ≡ id) → o ≡ get_or rows i o
+    → ((q : ℕ) → find nat_cmp q (linked ms) ≡ cond (eqb (child_of q) id && has_link q o) None (find nat_cmp q (linked links)))
+    → js ≡ remove ids i → ss ≡ remove rows i → Leaves js ss ms (finite.remove extent.rows id)
+  lost i id o ms js ss h at links_now ids_now rows_now =
+    rw (ids_now, rows_now) (subst (λ m. Leaves (remove ids i) (remove rows i) ms (finite.remove m id)) is (taken ids rows links kept i id o ms (rw same at h.0) (rw same at h.1) at links_now))
+
+  pub not_there : (i id : ℕ) → WouldGo s id i → extent.rows ≡ finite.remove extent.rows id
+  not_there i id h = sym is ∙ (absent ids rows links kept i id (rw same at h.0, rw same at h.1, rw same at h.2) ∙ ap (λ m. finite.remove m id) is)

@@ -2,3 +2,4 @@ pub mod Tables
 pub mod Looks
 pub mod Fits
 pub mod Links
+pub mod Codes

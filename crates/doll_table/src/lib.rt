@@ -2,6 +2,7 @@
 #![tactic(auto)]
 
 mod links;
+mod model_rows;
 pub mod rows;
 
 pub use rows::{Assoc, Rows};
