@@ -3,3 +3,5 @@ pub mod Linked
 pub mod Linking
 pub mod Children
 pub mod Kept
+pub mod Beyond
+pub mod Fitting

@@ -1,14 +1,14 @@
 -- What an edit of the links makes of them.
-use Rattle.std.proofs.Common.{◌≡◌, ℕ, zero, suc, ◌+◌, ◌-◌, ◌*◌, ◌/◌, ◌%◌, ◌^◌, ◌<◌, ◌≤◌, Bool, true, false, not, cond, ◌&&◌, List, [], ◌∷◌, ◌++◌, map, filter, length, get_or, take, drop, set, Option, Some, None, leb, ltb, refl, sym, ◌∙◌, ap, subst, arith, ◌⊎◌, inl, inr}
+use Rattle.std.proofs.Common.{◌≡◌, ℕ, zero, suc, ◌+◌, ◌-◌, ◌^◌, ◌<◌, ◌≤◌, not, ◌&&◌, List, [], ◌∷◌, map, filter, length, get_or, take, drop, leb, ltb, refl, sym, ◌∙◌, ap, subst, arith, ◌⊎◌, inl, inr}
 use Rattle.std.specs.Prelude.{T}
 use Rattle.std.specs.List.{insert, remove}
 use Rattle.std.specs.Ordering.{nat_cmp, eq_by_cmp}
 use Rattle.std.specs.Cmp.{nat_cmp_total}
-use Rattle.std.specs.FinMap.Entries.{put, where_key, find, is_sorted, is_sorted-put, is_sorted-where_key}
+use Rattle.std.specs.FinMap.Entries.{put, where_key, is_sorted, is_sorted-put, is_sorted-where_key}
 use Rattle.std.proofs.lemmas.Bool.{cases_order}
 use Rattle.std.proofs.lemmas.List.{set-get_or, length-map, take-map, drop-map}
 use Rattle.doll_table.specs.Links.{linked, child_of, link_of}
-use Rattle.doll_table.proofs.Placed.{found_at, put_at, without_at, put_between, missed_between, without_between, rise, range_is, map_insert, map_remove}
+use Rattle.doll_table.proofs.Placed.{put_at, without_at, put_between, without_between, rise, range_is, map_insert, map_remove}
 
 pub length_linked : (ls : List ℕ) → length (linked ls) ≡ length ls
 length_linked ls = length-map ls (λ (l : ℕ). (l, child_of l))
@@ -21,8 +21,8 @@ link_at (x ∷ ls) (suc i) d l = link_at ls i d (omega arith)
 
 pub links_rise : (ls : List ℕ) (i j : ℕ) → T (is_sorted nat_cmp (linked ls)) → i < j → j < length ls → get_or ls i 0 < get_or ls j 0
 links_rise ls i j s l m =
-  let up = rise (linked ls) i j (0, 0) s l (omega (arith, length_linked ls)) in
-  omega (arith, up, ap (λ (e : ℕ × ℕ). e.0) (link_at ls i (0, 0) (omega arith)), ap (λ (e : ℕ × ℕ). e.0) (link_at ls j (0, 0) m))
+    let up = rise (linked ls) i j (0, 0) s l (omega (arith, length_linked ls)) in
+    omega (arith, up, ap (λ (e : ℕ × ℕ). e.0) (link_at ls i (0, 0) (omega arith)), ap (λ (e : ℕ × ℕ). e.0) (link_at ls j (0, 0) m))
 
 pub links_rise_or_stay : (ls : List ℕ) (i j : ℕ) → T (is_sorted nat_cmp (linked ls)) → i ≤ j → j < length ls → get_or ls i 0 ≤ get_or ls j 0
 links_rise_or_stay ls i j s l m = by_order (cases_order i j)
@@ -38,27 +38,27 @@ key_at ls i d l = ap (λ (e : ℕ × ℕ). e.0) (link_at ls i d l)
 -- a new link goes in at its place
 pub link_inserted : (ls : List ℕ) (i link : ℕ) → i ≤ length ls → ((k : ℕ) → k < i → get_or ls k 0 < link) → ((k : ℕ) → i ≤ k → k < length ls → link < get_or ls k 0) → linked (insert ls i link) ≡ put nat_cmp link (child_of link) (linked ls)
 link_inserted ls i link l before after =
-  map_insert (λ (l : ℕ). (l, child_of l)) ls i link
-  ∙ sym (put_between (linked ls) i link (child_of link) (omega (arith, length_linked ls))
+    map_insert (λ (l : ℕ). (l, child_of l)) ls i link
+    ∙ sym (put_between (linked ls) i link (child_of link) (omega (arith, length_linked ls))
     (λ j d h. rw (key_at ls j d (omega arith)) (before j h))
     (λ j d h m. let inside : j < length ls = omega (arith, length_linked ls) in rw (key_at ls j d inside) (after j h inside)))
 
 -- a link that is there stays
 pub link_stays : (ls : List ℕ) (i link : ℕ) → T (is_sorted nat_cmp (linked ls)) → i < length ls → get_or ls i 0 ≡ link → linked ls ≡ put nat_cmp link (child_of link) (linked ls)
 link_stays ls i link s l at =
-  let same : get_or (linked ls) i (0, 0) ≡ (link, child_of link) = link_at ls i (0, 0) l ∙ ap (λ (x : ℕ). (x, child_of x)) at in
-  sym (put_at (linked ls) i link (child_of link) (0, 0) s (omega (arith, length_linked ls)) (ap (λ (e : ℕ × ℕ). e.0) same) ∙ rw (← same) (set-get_or (linked ls) i (0, 0)))
+    let same : get_or (linked ls) i (0, 0) ≡ (link, child_of link) = link_at ls i (0, 0) l ∙ ap (λ (x : ℕ). (x, child_of x)) at in
+    sym (put_at (linked ls) i link (child_of link) (0, 0) s (omega (arith, length_linked ls)) (ap (λ (e : ℕ × ℕ). e.0) same) ∙ rw (← same) (set-get_or (linked ls) i (0, 0)))
 
 -- a link that goes
 pub link_removed : (ls : List ℕ) (i link : ℕ) → T (is_sorted nat_cmp (linked ls)) → i < length ls → get_or ls i 0 ≡ link → linked (remove ls i) ≡ where_key nat_cmp (λ x. not (eq_by_cmp nat_cmp link x)) (linked ls)
 link_removed ls i link s l at =
-  map_remove (λ (l : ℕ). (l, child_of l)) ls i
-  ∙ sym (without_at (linked ls) i link (0, 0) s (omega (arith, length_linked ls)) (key_at ls i (0, 0) l ∙ at))
+    map_remove (λ (l : ℕ). (l, child_of l)) ls i
+    ∙ sym (without_at (linked ls) i link (0, 0) s (omega (arith, length_linked ls)) (key_at ls i (0, 0) l ∙ at))
 
 -- a link that isn't there needn't go
 pub link_missed : (ls : List ℕ) (i link : ℕ) → i ≤ length ls → ((k : ℕ) → k < i → get_or ls k 0 < link) → ((k : ℕ) → i ≤ k → k < length ls → link < get_or ls k 0) → linked ls ≡ where_key nat_cmp (λ x. not (eq_by_cmp nat_cmp link x)) (linked ls)
 link_missed ls i link l before after =
-  sym (without_between (linked ls) i link (omega (arith, length_linked ls))
+    sym (without_between (linked ls) i link (omega (arith, length_linked ls))
     (λ j d h. rw (key_at ls j d (omega arith)) (before j h))
     (λ j d h m. let inside : j < length ls = omega (arith, length_linked ls) in rw (key_at ls j d inside) (after j h inside)))
 
@@ -80,15 +80,18 @@ children_between ls kids first end from to s e o lf le before low below after = 
     by_order (inl same) = omega arith
     by_order (inr (inl less)) = omega arith
     by_order (inr (inr more)) = omega (arith, before end more, after end (omega arith) (omega arith))
+
     ordered : first ≤ end
     ordered = by_order (cases_order first end)
+
     seconds : (ls : List ℕ) → map (λ (e : ℕ × ℕ). e.1) (linked ls) ≡ map child_of ls
     seconds [] = refl
     seconds (x ∷ ls) = ap (λ t. child_of x ∷ t) (seconds ls)
+
     sides : first ≤ end → take (end - first) (drop first (map (λ (e : ℕ × ℕ). e.1) (linked ls))) ≡ map (λ (e : ℕ × ℕ). e.1) (filter (λ (e : ℕ × ℕ). leb from e.0 && ltb e.0 to) (linked ls))
     sides o2 =
-      rw (drop-map (λ (e : ℕ × ℕ). e.1) first (linked ls), take-map (λ (e : ℕ × ℕ). e.1) (end - first) (drop first (linked ls)))
-      (ap (map (λ (e : ℕ × ℕ). e.1)) (range_is (linked ls) first end from to o2 (omega arith)
+        rw (drop-map (λ (e : ℕ × ℕ). e.1) first (linked ls), take-map (λ (e : ℕ × ℕ). e.1) (end - first) (drop first (linked ls)))
+        (ap (map (λ (e : ℕ × ℕ). e.1)) (range_is (linked ls) first end from to o2 (omega arith)
         (λ j d h l. let inside : j < length ls = omega (arith, length_linked ls) in rw (key_at ls j d inside) (before j h))
         (λ j d h l. let inside : j < length ls = omega (arith, length_linked ls) in rw (key_at ls j d inside) (low j h inside))
         (λ j d h l. let inside : j < length ls = omega (arith, length_linked ls) in rw (key_at ls j d inside) (below j h))
@@ -129,4 +132,4 @@ beside_removed ls kids ms fewer i e made lost = lost ∙ rw (e, made) (sym (map_
 pub children_found : (ls s t kids : List ℕ) (first end link from : ℕ) → T (is_sorted nat_cmp (linked ls)) → s ≡ ls → t ≡ ls → kids ≡ map child_of ls → link ≡ from → first ≤ length s → ((k : ℕ) → k < first → get_or s k 0 < link) → ((k : ℕ) → first ≤ k → k < length s → link ≤ get_or s k 0) → end ≤ length t → ((k : ℕ) → k < end → get_or t k 0 < link + 2 ^ 32) → ((k : ℕ) → end ≤ k → k < length t → link + 2 ^ 32 ≤ get_or t k 0)
     → (first ≤ end) × (take (end - first) (drop first kids) ≡ map (λ (e : ℕ × ℕ). e.1) (filter (λ (e : ℕ × ℕ). leb from e.0 && ltb e.0 (from + 2 ^ 32)) (linked ls)))
 children_found ls s t kids first end link from sorted e u o same lf before low le below after =
-  rw (← same) (children_between ls kids first end link (link + 2 ^ 32) sorted o (omega arith) (rw e at lf) (rw u at le) (rw e at before) (rw e at low) (rw u at below) (rw u at after))
+    rw (← same) (children_between ls kids first end link (link + 2 ^ 32) sorted o (omega arith) (rw e at lf) (rw u at le) (rw e at before) (rw e at low) (rw u at below) (rw u at after))

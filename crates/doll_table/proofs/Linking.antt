@@ -1,18 +1,17 @@
 -- Which links a record has, association by association.
-use Rattle.std.proofs.Common.{◌≡◌, ℕ, zero, suc, ◌+◌, ◌-◌, ◌*◌, ◌/◌, ◌%◌, ◌^◌, ◌<◌, ◌≤◌, Bool, true, false, not, cond, ◌&&◌, ◌||◌, List, [], ◌∷◌, length, get_or, Option, Some, None, eqb, leb, ltb, refl, sym, ◌∙◌, ap, subst, arith, ◌⊎◌, inl, inr}
+use Rattle.std.proofs.Common.{◌≡◌, ℕ, zero, suc, ◌+◌, ◌/◌, ◌%◌, ◌^◌, ◌<◌, ◌≤◌, Bool, true, false, not, cond, ◌&&◌, ◌||◌, List, [], ◌∷◌, length, get_or, Option, Some, None, eqb, ltb, refl, sym, ◌∙◌, ap, arith, ◌⊎◌, inl, inr}
 use Rattle.std.specs.Prelude.{slice_get}
 use Rattle.std.specs.Option.{option_and_then, option_map_or}
-use Rattle.std.specs.Ordering.{nat_cmp, is_eq, eq_by_cmp}
-use Rattle.std.specs.declared.cmp.Ordering.TheVariants.{Less, Equal, Greater}
+use Rattle.std.specs.Ordering.{nat_cmp, eq_by_cmp}
+use Rattle.std.specs.declared.cmp.Ordering.TheVariants.{Equal}
 use Rattle.std.specs.Cmp.{nat_cmp_total}
-use Rattle.std.specs.Bool.{Decides}
 use Rattle.std.specs.FinMap.Entries.{put, where_key, find, find-put, find-where_key}
 use Rattle.std.proofs.lemmas.Option.{slice_get-get_or}
 use Rattle.std.proofs.lemmas.Bool.{cases_order, lt-ltb, le-ltb, eq-eqb, ne_eqb}
 use Rattle.std.proofs.lemmas.Bool.Decides.{nat_tests, same_from_decides, Decides-and, Decides-eqb, Decides-like}
 use Rattle.doll_schema.specs.declared.value.Row.{Row}
 use Rattle.doll_table.specs.Tables.{parent_of, names_parent}
-use Rattle.doll_table.specs.Links.{linked, child_of, link_of, has_link}
+use Rattle.doll_table.specs.Links.{child_of, link_of, has_link}
 
 is_eq_test : (a b : ℕ) → eq_by_cmp nat_cmp a b ≡ eqb a b
 is_eq_test a b = grind (arith, nat_tests)
@@ -20,14 +19,15 @@ is_eq_test a b = grind (arith, nat_tests)
 -- two links are the same where place, parent and child are
 link_parts : (q i p id : ℕ) → id < 2 ^ 32 → p < 2 ^ 32 → eq_by_cmp nat_cmp q (link_of i p id) ≡ (eqb (child_of q) id && (eqb (q / 2 ^ 32 / 2 ^ 32) i && eqb p (q / 2 ^ 32 % 2 ^ 32)))
 link_parts q i p id hid hp =
-  is_eq_test q (link_of i p id)
-  ∙ same_from_decides (eqb q (link_of i p id)) (eqb (child_of q) id && (eqb (q / 2 ^ 32 / 2 ^ 32) i && eqb p (q / 2 ^ 32 % 2 ^ 32))) (Decides-eqb q (link_of i p id))
+    is_eq_test q (link_of i p id)
+    ∙ same_from_decides (eqb q (link_of i p id)) (eqb (child_of q) id && (eqb (q / 2 ^ 32 / 2 ^ 32) i && eqb p (q / 2 ^ 32 % 2 ^ 32))) (Decides-eqb q (link_of i p id))
     (Decides-like (eqb (child_of q) id && (eqb (q / 2 ^ 32 / 2 ^ 32) i && eqb p (q / 2 ^ 32 % 2 ^ 32))) joins parts
-      (Decides-and (eqb (child_of q) id) (eqb (q / 2 ^ 32 / 2 ^ 32) i && eqb p (q / 2 ^ 32 % 2 ^ 32)) (Decides-eqb (child_of q) id)
-        (Decides-and (eqb (q / 2 ^ 32 / 2 ^ 32) i) (eqb p (q / 2 ^ 32 % 2 ^ 32)) (Decides-eqb (q / 2 ^ 32 / 2 ^ 32) i) (Decides-eqb p (q / 2 ^ 32 % 2 ^ 32)))))
+    (Decides-and (eqb (child_of q) id) (eqb (q / 2 ^ 32 / 2 ^ 32) i && eqb p (q / 2 ^ 32 % 2 ^ 32)) (Decides-eqb (child_of q) id)
+    (Decides-and (eqb (q / 2 ^ 32 / 2 ^ 32) i) (eqb p (q / 2 ^ 32 % 2 ^ 32)) (Decides-eqb (q / 2 ^ 32 / 2 ^ 32) i) (Decides-eqb p (q / 2 ^ 32 % 2 ^ 32)))))
   where
     joins : (child_of q ≡ id) × ((q / 2 ^ 32 / 2 ^ 32 ≡ i) × (p ≡ q / 2 ^ 32 % 2 ^ 32)) → q ≡ link_of i p id
     joins h = omega (arith, h.0, h.1.0, h.1.1)
+
     parts : q ≡ link_of i p id → (child_of q ≡ id) × ((q / 2 ^ 32 / 2 ^ 32 ≡ i) × (p ≡ q / 2 ^ 32 % 2 ^ 32))
     parts e = (omega (arith, e), (omega (arith, e), omega (arith, e)))
 
@@ -53,6 +53,7 @@ more_step true h d a i here = by_order (cases_order a i)
     or_none : (b : Bool) → b ≡ (b || false)
     or_none true = refl
     or_none false = refl
+
     by_order : (a ≡ i) ⊎ ((a < i) ⊎ (i < a)) → (ltb a (i + 1) && h) ≡ ((eqb a i && d) || (ltb a i && h))
     by_order (inl e) = rw (lt-ltb a (i + 1) (omega arith), le-ltb a i (omega arith), eq-eqb a i e, here e) (or_none d)
     by_order (inr (inl less)) = rw (lt-ltb a (i + 1) (omega arith), lt-ltb a i less, ne_eqb a i (omega arith)) refl
@@ -70,7 +71,7 @@ all_step c h a i past = by_order (cases_order a i)
 -- whether a record has a link at a place, by its key there
 link_at : (row : Row) (q i : ℕ) (key : Option ℕ) → slice_get row.parents i ≡ Some key → q / 2 ^ 32 / 2 ^ 32 ≡ i → has_link q row ≡ option_map_or (λ k. eqb k (q / 2 ^ 32 % 2 ^ 32)) key false
 link_at row q i key e same =
-  ap (λ n. names_parent n (q / 2 ^ 32 % 2 ^ 32) row) same ∙ ap (λ o. option_map_or (λ k. eqb k (q / 2 ^ 32 % 2 ^ 32)) o false) (key_at row i key e)
+    ap (λ n. names_parent n (q / 2 ^ 32 % 2 ^ 32) row) same ∙ ap (λ o. option_map_or (λ k. eqb k (q / 2 ^ 32 % 2 ^ 32)) o false) (key_at row i key e)
 
 pub early_none : (row : Row) (id q : ℕ) → is_early row id 0 q ≡ false
 early_none row id q = rw (le-ltb (q / 2 ^ 32 / 2 ^ 32) 0 (omega arith)) (both_false (eqb (child_of q) id))
@@ -84,13 +85,13 @@ early_nil row id i q e = nil_step (eqb (child_of q) id) (has_link q row) (q / 2 
 
 pub early_more : (row : Row) (id i p q : ℕ) → id < 2 ^ 32 → p < 2 ^ 32 → slice_get row.parents i ≡ Some (Some p) → is_early row id (i + 1) q ≡ (eq_by_cmp nat_cmp q (link_of i p id) || is_early row id i q)
 early_more row id i p q hid hp e =
-  more_step (eqb (child_of q) id) (has_link q row) (eqb p (q / 2 ^ 32 % 2 ^ 32)) (q / 2 ^ 32 / 2 ^ 32) i (link_at row q i (Some p) e)
-  ∙ ap (λ b. b || is_early row id i q) (sym (link_parts q i p id hid hp))
+    more_step (eqb (child_of q) id) (has_link q row) (eqb p (q / 2 ^ 32 % 2 ^ 32)) (q / 2 ^ 32 / 2 ^ 32) i (link_at row q i (Some p) e)
+    ∙ ap (λ b. b || is_early row id i q) (sym (link_parts q i p id hid hp))
 
 pub early_all : (row : Row) (id i q : ℕ) → length row.parents ≤ i → is_early row id i q ≡ (eqb (child_of q) id && has_link q row)
 early_all row id i q h =
-  all_step (eqb (child_of q) id) (has_link q row) (q / 2 ^ 32 / 2 ^ 32) i
-  (λ past. ap (λ o. option_map_or (λ k. eqb k (q / 2 ^ 32 % 2 ^ 32)) (option_and_then (λ k. k) o) false) (slice_get-past row.parents (q / 2 ^ 32 / 2 ^ 32) (omega arith)))
+    all_step (eqb (child_of q) id) (has_link q row) (q / 2 ^ 32 / 2 ^ 32) i
+    (λ past. ap (λ o. option_map_or (λ k. eqb k (q / 2 ^ 32 % 2 ^ 32)) (option_and_then (λ k. k) o) false) (slice_get-past row.parents (q / 2 ^ 32 / 2 ^ 32) (omega arith)))
   where
     slice_get-past : {A : Type 0} (xs : List A) (n : ℕ) → length xs ≤ n → slice_get xs n ≡ None
     slice_get-past [] zero h = refl
@@ -101,8 +102,8 @@ early_all row id i q h =
 -- what is found once one more link is put, or taken away
 pub put_step : (row : Row) (id i p q : ℕ) (es fs : List (ℕ × ℕ)) (first : Option ℕ) → id < 2 ^ 32 → p < 2 ^ 32 → slice_get row.parents i ≡ Some (Some p) → fs ≡ put nat_cmp (link_of i p id) (child_of (link_of i p id)) es → find nat_cmp q es ≡ cond (is_early row id i q) (Some (child_of q)) first → find nat_cmp q fs ≡ cond (is_early row id (i + 1) q) (Some (child_of q)) first
 put_step row id i p q es fs first hid hp e made before =
-  rw (made, early_more row id i p q hid hp e)
-  (find-put nat_cmp nat_cmp_total q (link_of i p id) (child_of (link_of i p id)) es ∙ rw before (by_test (eq_by_cmp nat_cmp q (link_of i p id)) refl))
+    rw (made, early_more row id i p q hid hp e)
+    (find-put nat_cmp nat_cmp_total q (link_of i p id) (child_of (link_of i p id)) es ∙ rw before (by_test (eq_by_cmp nat_cmp q (link_of i p id)) refl))
   where
     by_test : (b : Bool) → eq_by_cmp nat_cmp q (link_of i p id) ≡ b → cond b (Some (child_of (link_of i p id))) (cond (is_early row id i q) (Some (child_of q)) first) ≡ cond (b || is_early row id i q) (Some (child_of q)) first
     by_test true t = let same : q ≡ link_of i p id = from_test in ap (λ x. Some (child_of x)) (sym same)
@@ -113,14 +114,16 @@ put_step row id i p q es fs first hid hp e made before =
 
 pub remove_step : (row : Row) (id i p q : ℕ) (es fs : List (ℕ × ℕ)) (first : Option ℕ) → id < 2 ^ 32 → p < 2 ^ 32 → slice_get row.parents i ≡ Some (Some p) → fs ≡ where_key nat_cmp (λ x. not (eq_by_cmp nat_cmp (link_of i p id) x)) es → find nat_cmp q es ≡ cond (is_early row id i q) None first → find nat_cmp q fs ≡ cond (is_early row id (i + 1) q) None first
 remove_step row id i p q es fs first hid hp e made before =
-  rw (made, early_more row id i p q hid hp e)
-  (find-where_key nat_cmp (λ x. not (eq_by_cmp nat_cmp (link_of i p id) x)) q (λ x t. ap (λ y. not (eq_by_cmp nat_cmp (link_of i p id) y)) (sym (equal q x t))) es
+    rw (made, early_more row id i p q hid hp e)
+    (find-where_key nat_cmp (λ x. not (eq_by_cmp nat_cmp (link_of i p id) x)) q (λ x t. ap (λ y. not (eq_by_cmp nat_cmp (link_of i p id) y)) (sym (equal q x t))) es
     ∙ rw (before, turned) (by_test (eq_by_cmp nat_cmp q (link_of i p id))))
   where
     equal : (x y : ℕ) → nat_cmp x y ≡ Equal → x ≡ y
     equal x y h = grind (arith, nat_tests)
+
     turned : eq_by_cmp nat_cmp (link_of i p id) q ≡ eq_by_cmp nat_cmp q (link_of i p id)
     turned = grind (arith, nat_tests)
+
     by_test : (b : Bool) → cond (not b) (cond (is_early row id i q) None first) None ≡ cond (b || is_early row id i q) None first
     by_test true = refl
     by_test false = refl

@@ -1,12 +1,10 @@
 -- Entries in the order of their keys: what a search by key finds, and what an edit at its place makes of them.
-use Rattle.std.proofs.Common.{◌≡◌, ℕ, zero, suc, ◌+◌, ◌<◌, ◌≤◌, Bool, true, false, not, cond, ◌&&◌, List, [], ◌∷◌, ◌++◌, map, filter, length, get_or, take, drop, set, Option, Some, None, leb, ltb, ◌-◌, refl, sym, ◌∙◌, ap, subst, arith}
+use Rattle.std.proofs.Common.{◌≡◌, ℕ, zero, suc, ◌<◌, ◌≤◌, Bool, true, false, not, ◌&&◌, List, [], ◌∷◌, map, filter, length, get_or, take, drop, set, Some, None, leb, ltb, ◌-◌, refl, sym, ◌∙◌, ap, subst, arith}
 use Rattle.std.specs.Prelude.{T}
 use Rattle.std.specs.List.{insert, remove}
-use Rattle.std.specs.Ordering.{nat_cmp, is_lt, is_eq, eq_by_cmp}
-use Rattle.std.specs.declared.cmp.Ordering.{Ordering}
+use Rattle.std.specs.Ordering.{nat_cmp, is_lt, eq_by_cmp}
 use Rattle.std.specs.declared.cmp.Ordering.TheVariants.{Less, Equal, Greater}
-use Rattle.std.specs.FinMap as finite
-use Rattle.std.specs.FinMap.Entries.{put, where_key, find, below_all, is_sorted, by_order}
+use Rattle.std.specs.FinMap.Entries.{put, where_key, find, below_all, is_sorted}
 use Rattle.std.proofs.Math.Nat.{sub-zero}
 use Rattle.std.proofs.lemmas.List.{map-append, take-map, drop-map}
 use Rattle.std.proofs.lemmas.Bool.{lt-ltb, le-ltb, le-leb, lt-leb}
@@ -47,29 +45,29 @@ module _ {X : Type 0} where
   found_at [] i k d s l at = absurd (omega arith)
   found_at (e ∷ es) zero k d s l at = rw (cmp_equal k e.0 (sym at)) refl
   found_at (e ∷ es) (suc i) k d s l at =
-    let above = below_at e.0 es i d (and_first (below_all nat_cmp e.0 es) (is_sorted nat_cmp es) s) (omega arith) in
-    rw (cmp_greater k e.0 (omega (arith, above, at))) (found_at es i k d (and_second (below_all nat_cmp e.0 es) (is_sorted nat_cmp es) s) (omega arith) at)
+      let above = below_at e.0 es i d (and_first (below_all nat_cmp e.0 es) (is_sorted nat_cmp es) s) (omega arith) in
+      rw (cmp_greater k e.0 (omega (arith, above, at))) (found_at es i k d (and_second (below_all nat_cmp e.0 es) (is_sorted nat_cmp es) s) (omega arith) at)
 
   -- a row under a key that is there takes the place of that key's
   pub put_at : (es : List (ℕ × X)) (i k : ℕ) (v : X) (d : ℕ × X) → T (is_sorted nat_cmp es) → i < length es → (get_or es i d).0 ≡ k → put nat_cmp k v es ≡ set es i (k, v)
   put_at [] i k v d s l at = absurd (omega arith)
   put_at (e ∷ es) zero k v d s l at = rw (cmp_equal k e.0 (sym at), at) refl
   put_at (e ∷ es) (suc i) k v d s l at =
-    let above = below_at e.0 es i d (and_first (below_all nat_cmp e.0 es) (is_sorted nat_cmp es) s) (omega arith) in
-    rw (cmp_greater k e.0 (omega (arith, above, at))) (ap (λ t. e ∷ t) (put_at es i k v d (and_second (below_all nat_cmp e.0 es) (is_sorted nat_cmp es) s) (omega arith) at))
+      let above = below_at e.0 es i d (and_first (below_all nat_cmp e.0 es) (is_sorted nat_cmp es) s) (omega arith) in
+      rw (cmp_greater k e.0 (omega (arith, above, at))) (ap (λ t. e ∷ t) (put_at es i k v d (and_second (below_all nat_cmp e.0 es) (is_sorted nat_cmp es) s) (omega arith) at))
 
   none_below : (k : ℕ) (es : List (ℕ × X)) → T (below_all nat_cmp k es) → where_key nat_cmp (λ x. not (eq_by_cmp nat_cmp k x)) es ≡ es
   none_below k [] h = refl
   none_below k (e ∷ es) h =
-    rw (cmp_less k e.0 (less_from k e.0 (and_first (is_lt (nat_cmp k e.0)) (below_all nat_cmp k es) h))) (ap (λ t. e ∷ t) (none_below k es (and_second (is_lt (nat_cmp k e.0)) (below_all nat_cmp k es) h)))
+      rw (cmp_less k e.0 (less_from k e.0 (and_first (is_lt (nat_cmp k e.0)) (below_all nat_cmp k es) h))) (ap (λ t. e ∷ t) (none_below k es (and_second (is_lt (nat_cmp k e.0)) (below_all nat_cmp k es) h)))
 
   -- the entries without a key that is there
   pub without_at : (es : List (ℕ × X)) (i k : ℕ) (d : ℕ × X) → T (is_sorted nat_cmp es) → i < length es → (get_or es i d).0 ≡ k → where_key nat_cmp (λ x. not (eq_by_cmp nat_cmp k x)) es ≡ remove es i
   without_at [] i k d s l at = absurd (omega arith)
   without_at (e ∷ es) zero k d s l at = rw (cmp_equal k e.0 (sym at)) (none_below k es (subst (λ x. T (below_all nat_cmp x es)) at (and_first (below_all nat_cmp e.0 es) (is_sorted nat_cmp es) s)))
   without_at (e ∷ es) (suc i) k d s l at =
-    let above = below_at e.0 es i d (and_first (below_all nat_cmp e.0 es) (is_sorted nat_cmp es) s) (omega arith) in
-    rw (cmp_greater k e.0 (omega (arith, above, at))) (ap (λ t. e ∷ t) (without_at es i k d (and_second (below_all nat_cmp e.0 es) (is_sorted nat_cmp es) s) (omega arith) at))
+      let above = below_at e.0 es i d (and_first (below_all nat_cmp e.0 es) (is_sorted nat_cmp es) s) (omega arith) in
+      rw (cmp_greater k e.0 (omega (arith, above, at))) (ap (λ t. e ∷ t) (without_at es i k d (and_second (below_all nat_cmp e.0 es) (is_sorted nat_cmp es) s) (omega arith) at))
 
   -- a key between those before a place and those from it on goes in there
   pub put_between : (es : List (ℕ × X)) (i k : ℕ) (v : X) → i ≤ length es → ((j : ℕ) (d : ℕ × X) → j < i → (get_or es j d).0 < k) → ((j : ℕ) (d : ℕ × X) → i ≤ j → j < length es → k < (get_or es j d).0) → put nat_cmp k v es ≡ insert es i (k, v)
@@ -77,23 +75,23 @@ module _ {X : Type 0} where
   put_between [] (suc i) k v l before after = absurd (omega arith)
   put_between (e ∷ es) zero k v l before after = rw (cmp_less k e.0 (after 0 e (omega arith) (omega arith))) refl
   put_between (e ∷ es) (suc i) k v l before after =
-    rw (cmp_greater k e.0 (before 0 e (omega arith))) (ap (λ t. e ∷ t) (put_between es i k v (omega arith) (λ j d h. before (suc j) d (omega arith)) (λ j d h m. after (suc j) d (omega arith) (omega arith))))
+      rw (cmp_greater k e.0 (before 0 e (omega arith))) (ap (λ t. e ∷ t) (put_between es i k v (omega arith) (λ j d h. before (suc j) d (omega arith)) (λ j d h m. after (suc j) d (omega arith) (omega arith))))
 
   -- such a key isn't there
   pub missed_between : (es : List (ℕ × X)) (i k : ℕ) → i ≤ length es → ((j : ℕ) (d : ℕ × X) → j < i → (get_or es j d).0 < k) → ((j : ℕ) (d : ℕ × X) → i ≤ j → j < length es → k < (get_or es j d).0) → find nat_cmp k es ≡ None
   missed_between [] i k l before after = refl
   missed_between (e ∷ es) zero k l before after =
-    rw (cmp_less k e.0 (after 0 e (omega arith) (omega arith))) (missed_between es zero k (omega arith) (λ j d h. absurd (omega arith)) (λ j d h m. after (suc j) d (omega arith) (omega arith)))
+      rw (cmp_less k e.0 (after 0 e (omega arith) (omega arith))) (missed_between es zero k (omega arith) (λ j d h. absurd (omega arith)) (λ j d h m. after (suc j) d (omega arith) (omega arith)))
   missed_between (e ∷ es) (suc i) k l before after =
-    rw (cmp_greater k e.0 (before 0 e (omega arith))) (missed_between es i k (omega arith) (λ j d h. before (suc j) d (omega arith)) (λ j d h m. after (suc j) d (omega arith) (omega arith)))
+      rw (cmp_greater k e.0 (before 0 e (omega arith))) (missed_between es i k (omega arith) (λ j d h. before (suc j) d (omega arith)) (λ j d h m. after (suc j) d (omega arith) (omega arith)))
 
   -- the entries without a key that isn't there
   pub without_between : (es : List (ℕ × X)) (i k : ℕ) → i ≤ length es → ((j : ℕ) (d : ℕ × X) → j < i → (get_or es j d).0 < k) → ((j : ℕ) (d : ℕ × X) → i ≤ j → j < length es → k < (get_or es j d).0) → where_key nat_cmp (λ x. not (eq_by_cmp nat_cmp k x)) es ≡ es
   without_between [] i k l before after = refl
   without_between (e ∷ es) zero k l before after =
-    rw (cmp_less k e.0 (after 0 e (omega arith) (omega arith))) (ap (λ t. e ∷ t) (without_between es zero k (omega arith) (λ j d h. absurd (omega arith)) (λ j d h m. after (suc j) d (omega arith) (omega arith))))
+      rw (cmp_less k e.0 (after 0 e (omega arith) (omega arith))) (ap (λ t. e ∷ t) (without_between es zero k (omega arith) (λ j d h. absurd (omega arith)) (λ j d h m. after (suc j) d (omega arith) (omega arith))))
   without_between (e ∷ es) (suc i) k l before after =
-    rw (cmp_greater k e.0 (before 0 e (omega arith))) (ap (λ t. e ∷ t) (without_between es i k (omega arith) (λ j d h. before (suc j) d (omega arith)) (λ j d h m. after (suc j) d (omega arith) (omega arith))))
+      rw (cmp_greater k e.0 (before 0 e (omega arith))) (ap (λ t. e ∷ t) (without_between es i k (omega arith) (λ j d h. before (suc j) d (omega arith)) (λ j d h m. after (suc j) d (omega arith) (omega arith))))
 
   -- in order, the keys rise with their places
   pub rise : (es : List (ℕ × X)) (i j : ℕ) (d : ℕ × X) → T (is_sorted nat_cmp es) → i < j → j < length es → (get_or es i d).0 < (get_or es j d).0
@@ -106,7 +104,7 @@ module _ {X : Type 0} where
   none_within : (es : List (ℕ × X)) (from to : ℕ) → ((j : ℕ) (d : ℕ × X) → j < length es → to ≤ (get_or es j d).0) → filter (λ (e : ℕ × X). leb from e.0 && ltb e.0 to) es ≡ []
   none_within [] from to after = refl
   none_within (e ∷ es) from to after =
-    rw (test (leb from e.0) (ltb e.0 to) (le-ltb e.0 to (after 0 e (omega arith)))) (none_within es from to (λ j d h. after (suc j) d (omega arith)))
+      rw (test (leb from e.0) (ltb e.0 to) (le-ltb e.0 to (after 0 e (omega arith)))) (none_within es from to (λ j d h. after (suc j) d (omega arith)))
     where
       test : (a b : Bool) → b ≡ false → (a && b) ≡ false
       test true b h = h
@@ -117,9 +115,9 @@ module _ {X : Type 0} where
   first_within [] (suc n) from to low below after = refl
   first_within (e ∷ es) zero from to low below after = sym (none_within (e ∷ es) from to (λ j d h. after j d (omega arith) h))
   first_within (e ∷ es) (suc n) from to low below after =
-    let a : leb from e.0 ≡ true = le-leb from e.0 (low 0 e (omega arith)) in
-    let b : ltb e.0 to ≡ true = lt-ltb e.0 to (below 0 e (omega arith) (omega arith)) in
-    rw (a, b) (ap (λ t. e ∷ t) (first_within es n from to (λ j d h. low (suc j) d (omega arith)) (λ j d h m. below (suc j) d (omega arith) (omega arith)) (λ j d h m. after (suc j) d (omega arith) (omega arith))))
+      let a : leb from e.0 ≡ true = le-leb from e.0 (low 0 e (omega arith)) in
+      let b : ltb e.0 to ≡ true = lt-ltb e.0 to (below 0 e (omega arith) (omega arith)) in
+      rw (a, b) (ap (λ t. e ∷ t) (first_within es n from to (λ j d h. low (suc j) d (omega arith)) (λ j d h m. below (suc j) d (omega arith) (omega arith)) (λ j d h m. after (suc j) d (omega arith) (omega arith))))
 
   take_nothing : (k : ℕ) → take k (let none : List (ℕ × X) = [] in none) ≡ []
   take_nothing zero = refl
@@ -131,9 +129,9 @@ module _ {X : Type 0} where
   range_is [] (suc m) n from to o r before low below after = take_nothing (n - suc m)
   range_is (e ∷ es) (suc m) zero from to o r before low below after = absurd (omega arith)
   range_is (e ∷ es) (suc m) (suc n) from to o r before low below after =
-    let a : leb from e.0 ≡ false = lt-leb from e.0 (before 0 e (omega arith) (omega arith)) in
-    let less : suc n - suc m ≡ n - m = omega arith in
-    rw (less, a) (range_is es m n from to (omega arith) r (λ j d h l. before (suc j) d (omega arith) (omega arith)) (λ j d h l. low (suc j) d (omega arith) (omega arith)) (λ j d h l. below (suc j) d (omega arith) (omega arith)) (λ j d h l. after (suc j) d (omega arith) (omega arith)))
+      let a : leb from e.0 ≡ false = lt-leb from e.0 (before 0 e (omega arith) (omega arith)) in
+      let less : suc n - suc m ≡ n - m = omega arith in
+      rw (less, a) (range_is es m n from to (omega arith) r (λ j d h l. before (suc j) d (omega arith) (omega arith)) (λ j d h l. low (suc j) d (omega arith) (omega arith)) (λ j d h l. below (suc j) d (omega arith) (omega arith)) (λ j d h l. after (suc j) d (omega arith) (omega arith)))
 
 module _ {A B : Type 0} (f : A → B) where
   pub map_insert : (xs : List A) (i : ℕ) (x : A) → map f (insert xs i x) ≡ insert (map f xs) i (f x)

@@ -2,7 +2,11 @@
 #![tactic(auto)]
 
 mod links;
+pub mod looking;
 mod model_rows;
 pub mod rows;
+pub mod table;
 
+pub use looking::Looking;
 pub use rows::{Assoc, Rows};
+pub use table::Table;

@@ -48,8 +48,7 @@ fn seek(ids: &[u32], id: u32) -> Result<usize, usize>
 /// What the type of ids says of each, for a proof that has them as a list.
 fn have_32_bits(ids: &[u32])
     ensures { (k : ℕ) → slice_index ids.now k < 2 ^ 32 }
-{
-}
+{}
 
 impl ModelRows {
     /// No rows; the next id is 1.
@@ -147,9 +146,9 @@ impl ModelRows {
         let Ok(at) = seek(self.ids.as_slice(), id) else {
             return false;
         };
-        unlink(&mut self.links, &self.rows[at], id);
+        let row = self.rows.remove(at);
+        unlink(&mut self.links, &row, id);
         self.ids.remove(at);
-        self.rows.remove(at);
         true
     }
 }

@@ -18,7 +18,7 @@ invariant_of-self c =
     record {
       sorted = sorted_inserted c.args.self.now.links.items c.insert.new.self.items link c.args.self.now.sorted new;
       beside = beside_inserted c.args.self.now.links.items c.args.self.now.children.items c.insert.new.self.items c.insert-in-Err.new.self.items c.in-Err.at c.link_of-link.result c.args.child c.args.self.now.beside made gained
-        (ap child_of c.link_of-link.ensures ∙ child_is c.args.place c.args.parent c.args.child (omega arith))
+          (ap child_of c.link_of-link.ensures ∙ child_is c.args.place c.args.parent c.args.child (omega arith));
     }
 
 pub returns-in-Err-clause-links : goal.returns-in-Err-clause-links

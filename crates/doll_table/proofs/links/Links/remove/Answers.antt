@@ -11,7 +11,7 @@ invariant_of-self c =
     let gone = removed c.args.self.now.links.items c.as_slice.result.now c.remove.new.self.items c.in-Ok.at c.link_of-link.result link c.as_slice.ensures.value c.args.self.now.sorted c.in-Ok.ensures c.remove.ensures.items c.link_of-link.ensures in
     record {
       sorted = sorted_removed c.args.self.now.links.items c.remove.new.self.items link c.args.self.now.sorted gone;
-      beside = beside_removed c.args.self.now.links.items c.args.self.now.children.items c.remove.new.self.items c.remove-in-Ok.new.self.items c.in-Ok.at c.args.self.now.beside c.remove.ensures.items c.remove-in-Ok.ensures.items
+      beside = beside_removed c.args.self.now.links.items c.args.self.now.children.items c.remove.new.self.items c.remove-in-Ok.new.self.items c.in-Ok.at c.args.self.now.beside c.remove.ensures.items c.remove-in-Ok.ensures.items;
     }
 
 pub returns-in-Ok-clause-links : goal.returns-in-Ok-clause-links

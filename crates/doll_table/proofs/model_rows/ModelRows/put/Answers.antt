@@ -1,5 +1,4 @@
-use Rattle.std.proofs.Common.{◌≡◌, true, is_ok, ap, sym, ◌∙◌, arith}
-use Rattle.std.specs.List.{insert}
+use Rattle.std.proofs.Common.{◌≡◌, true, is_ok, ap, arith}
 use Rattle.doll_table.specs.Tables.{Extent}
 use Rattle.doll_table.proofs.Kept.{kept_along, map_along, rise_searched, replaced, gained, extent_is}
 use Rattle.doll_table.proofs.model_rows.ModelRows.put.Goals as goal
