@@ -10,3 +10,6 @@ pub mod table;
 pub use looking::Looking;
 pub use rows::{Assoc, Rows};
 pub use table::Table;
+
+#[cfg(test)]
+mod tests;
