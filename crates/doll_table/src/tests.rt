@@ -8,9 +8,15 @@ use doll_schema::{BelongsTo, HasMany, Manys, Model, Parents, Row, Schema};
 use std::alloc::Global;
 
 const PRODUCT: u16 = 0;
+
 const GAME: u16 = 1;
 
-fn model(alloc: Global, name: &[u8], belongs_to: Parents, has_many: Manys) -> Result<Model, Memory> {
+fn model(
+    alloc: Global,
+    name: &[u8],
+    belongs_to: Parents,
+    has_many: Manys,
+) -> Result<Model, Memory> {
     Ok(Model {
         name: Name::from_bytes(alloc, name)?,
         plural: Name::from_bytes(alloc, name)?,
@@ -61,7 +67,10 @@ fn children_follow_their_rows(rt: HostRuntime) -> Result<(), Memory> {
     table.put(GAME, 7, row(alloc, Some(2))?)?;
     table.set_next(GAME, 10);
     let copy = table.copy(alloc)?;
-    assert_eq!(rt; [table.remove(GAME, 9)?, table.remove(GAME, 9)?], [true, false]);
+    assert_eq!(rt;
+        [table.remove(GAME, 9)?, table.remove(GAME, 9)?],
+        [true, false]
+    );
     let games = Assoc {
         model: PRODUCT,
         has_many: 0,
