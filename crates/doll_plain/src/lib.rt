@@ -1,4 +1,7 @@
 //! Direct rendering of templates, with no cache.
 #![tactic(auto)]
 
-pub mod render;
+mod binding;
+mod render;
+
+pub use render::page;
