@@ -1,1 +1,5 @@
 pub mod Forms
+pub mod Reading
+pub mod Seen
+pub mod Spelling
+pub mod Storable

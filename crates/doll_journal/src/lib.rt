@@ -2,7 +2,13 @@
 #![tactic(auto)]
 
 pub mod change;
+pub mod decoding;
+pub mod encoding;
+pub mod fault;
 pub mod forms;
 
 pub use change::{Change, Changes, Commit, Given};
+pub use decoding::{decode, one_spelling};
+pub use encoding::encode;
+pub use fault::JournalFault;
 pub use forms::changes_of;

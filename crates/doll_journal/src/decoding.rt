@@ -1,0 +1,317 @@
+//! Reading the bytes of a commit.
+
+ghost use Rattle.std.specs.Prelude.{◌≡◌, IfOk};
+ghost use Rattle.std.specs.Int.{w32, w64};
+ghost use Rattle.std.specs.Str.{is_utf8};
+ghost use Rattle.doll_expr.specs.Gives.{Gives};
+ghost use Rattle.doll_journal.specs.declared.change.Commit.{Commit};
+ghost use Rattle.doll_journal.specs.Spelling.{spelling};
+ghost use Rattle.doll_journal.specs.Storable.{IsStorable, OneSpelling};
+ghost use Rattle.doll_journal.specs.Seen.{GivesSeen};
+ghost use Rattle.doll_journal.specs.Reading.{place, byte_at, number_at, text_at, tagged_value, value_at, pair_at, repeated, given_at, create_at, update_at, destroy_at, touch_at, tagged_change, change_at, changes_at, commit_at, commit_of};
+
+use crate::change::{Change, Changes, Commit, Given};
+use crate::fault::JournalFault;
+use doll_expr::{Items, Name, Text};
+use doll_schema::Value;
+use std::alloc::Global;
+
+/// The most bytes of a commit.
+const LIMIT: usize = 2_147_483_648;
+
+/// The commit whose bytes these are, all of them.
+pub fn decode(alloc: Global, bytes: &[u8]) -> Result<Commit, JournalFault>
+    // Which commit or fault it is.
+    ensures exact { Gives JournalFault.Memory (commit_of bytes.now) result }
+    // What is read is spelled so.
+    ensures found { IfOk result (λ c. (bytes.now ≡ spelling c) × IsStorable c) }
+    // What is spelled so is read, unless memory runs out.
+    ensures only { (c : Commit) → IsStorable c → bytes.now ≡ spelling c → Gives JournalFault.Memory (Ok c) result }
+{
+    commit_of(alloc, bytes)
+}
+
+/// No two commits are spelled alike.
+pub fn one_spelling()
+    ensures { OneSpelling }
+{}
+
+#[tactic(auto, unfolding(crate::specs::Reading::commit_of))]
+fn commit_of(alloc: Global, bytes: &[u8]) -> Result<Commit, JournalFault>
+    ensures { Gives JournalFault.Memory (commit_of bytes.now) result }
+{
+    if bytes.len() > LIMIT {
+        return Err(JournalFault::TooLarge {
+            limit: LIMIT as u64,
+        });
+    }
+    let (commit, rest) = commit_at(alloc, bytes.len(), bytes)?;
+    if !rest.is_empty() {
+        return Err(JournalFault::Trailing {
+            at: place(bytes.len(), rest),
+        });
+    }
+    Ok(commit)
+}
+
+/// Where the rest of so many bytes begins.
+fn place(total: usize, rest: &[u8]) -> u64
+    ensures { result ≡ place total rest.now }
+{
+    total.saturating_sub(rest.len()) as u64
+}
+
+#[tactic(auto, unfolding(crate::specs::Reading::commit_at))]
+fn commit_at(alloc: Global, total: usize, bytes: &[u8]) -> Result<(Commit, &[u8]), JournalFault>
+    ensures { GivesSeen (λ x. (x.0, x.1.now)) JournalFault.Memory (commit_at total bytes.now) result }
+{
+    let (author, rest) = u32_at(total, bytes)?;
+    let (serial, rest) = u64_at(total, rest)?;
+    let (moment, rest) = u64_at(total, rest)?;
+    let (changes, rest) = changes_at(alloc, total, rest)?;
+    let commit = Commit {
+        author,
+        serial,
+        moment,
+        changes,
+    };
+    Ok((commit, rest))
+}
+
+fn byte_at(total: usize, bytes: &[u8]) -> Result<(u8, &[u8]), JournalFault>
+    ensures { GivesSeen (λ x. (x.0, x.1.now)) JournalFault.Memory (byte_at total bytes.now) result }
+{
+    let [byte, rest @ ..] = bytes else {
+        return Err(JournalFault::Truncated {
+            at: place(total, bytes),
+        });
+    };
+    Ok((*byte, rest))
+}
+
+fn u32_at(total: usize, bytes: &[u8]) -> Result<(u32, &[u8]), JournalFault>
+    ensures { GivesSeen (λ x. (x.0, x.1.now)) JournalFault.Memory (number_at w32 total bytes.now) result }
+{
+    if bytes.len() < 4 {
+        return Err(JournalFault::Truncated {
+            at: place(total, bytes),
+        });
+    }
+    let (front, rest) = bytes.split_at(4);
+    let number = u32::from_be_bytes([front[0], front[1], front[2], front[3]]);
+    Ok((number, rest))
+}
+
+fn u64_at(total: usize, bytes: &[u8]) -> Result<(u64, &[u8]), JournalFault>
+    ensures { GivesSeen (λ x. (x.0, x.1.now)) JournalFault.Memory (number_at w64 total bytes.now) result }
+{
+    if bytes.len() < 8 {
+        return Err(JournalFault::Truncated {
+            at: place(total, bytes),
+        });
+    }
+    let (front, rest) = bytes.split_at(8);
+    let number = u64::from_be_bytes([
+        front[0], front[1], front[2], front[3], front[4], front[5], front[6], front[7],
+    ]);
+    Ok((number, rest))
+}
+
+/// The bytes of a text, and those after it.
+#[tactic(auto, unfolding(crate::specs::Reading::text_at))]
+fn text_at(total: usize, bytes: &[u8]) -> Result<(&[u8], &[u8]), JournalFault>
+    ensures { GivesSeen (λ x. (x.0.now, x.1.now)) JournalFault.Memory (text_at total bytes.now) result }
+{
+    let (len, rest) = u32_at(total, bytes)?;
+    let len = len as usize;
+    if rest.len() < len {
+        return Err(JournalFault::Truncated {
+            at: place(total, rest),
+        });
+    }
+    let (text, after) = rest.split_at(len);
+    if !is_text(text) {
+        return Err(JournalFault::BadText {
+            at: place(total, rest),
+        });
+    }
+    Ok((text, after))
+}
+
+#[tactic(auto, using(crate::proofs::Texts::is_a_text, crate::proofs::Texts::is_no_text))]
+fn is_text(bytes: &[u8]) -> bool
+    ensures { result ≡ is_utf8 bytes.now }
+{
+    match std::str::from_utf8(bytes) {
+        Ok(_) => true,
+        Err(_) => false,
+    }
+}
+
+#[tactic(auto, unfolding(crate::specs::Reading::value_at))]
+fn value_at(alloc: Global, total: usize, bytes: &[u8]) -> Result<(Value, &[u8]), JournalFault>
+    ensures { GivesSeen (λ x. (x.0, x.1.now)) JournalFault.Memory (value_at total bytes.now) result }
+{
+    let (tag, rest) = byte_at(total, bytes)?;
+    tagged_value(alloc, total, place(total, bytes), tag, rest)
+}
+
+#[tactic(auto, unfolding(crate::specs::Reading::tagged_value))]
+fn tagged_value(
+    alloc: Global,
+    total: usize,
+    at: u64,
+    tag: u8,
+    bytes: &[u8],
+) -> Result<(Value, &[u8]), JournalFault>
+    ensures { GivesSeen (λ x. (x.0, x.1.now)) JournalFault.Memory (tagged_value total at tag bytes.now) result }
+{
+    match tag {
+        0 => Ok((Value::Nil, bytes)),
+        1 => Ok((Value::Bool(false), bytes)),
+        2 => Ok((Value::Bool(true), bytes)),
+        3 => {
+            let (number, rest) = u64_at(total, bytes)?;
+            Ok((Value::Int(number.cast_signed()), rest))
+        }
+        4 => {
+            let (text, rest) = text_at(total, bytes)?;
+            Ok((Value::Text(Text::from_bytes(alloc, text)?), rest))
+        }
+        _ => Err(JournalFault::BadTag { at }),
+    }
+}
+
+#[tactic(auto, unfolding(crate::specs::Reading::pair_at))]
+fn pair_at(
+    alloc: Global,
+    total: usize,
+    bytes: &[u8],
+) -> Result<((Name, Value), &[u8]), JournalFault>
+    ensures { GivesSeen (λ x. (x.0, x.1.now)) JournalFault.Memory (pair_at total bytes.now) result }
+{
+    let (name, rest) = text_at(total, bytes)?;
+    let name = Name::from_bytes(alloc, name)?;
+    let (value, rest) = value_at(alloc, total, rest)?;
+    Ok(((name, value), rest))
+}
+
+fn pairs_at(
+    alloc: Global,
+    total: usize,
+    count: u32,
+    bytes: &[u8],
+) -> Result<(Given, &[u8]), JournalFault>
+    ensures { GivesSeen (λ x. (x.0, x.1.now)) JournalFault.Memory (repeated (pair_at total) count bytes.now) result }
+{
+    let mut given = Items::new(alloc);
+    let mut rest = bytes;
+    for _ in 0..count {
+        let (pair, after) = pair_at(alloc, total, rest)?;
+        given.push(pair)?;
+        rest = after;
+    }
+    Ok((given, rest))
+}
+
+#[tactic(auto, unfolding(crate::specs::Reading::given_at))]
+fn given_at(alloc: Global, total: usize, bytes: &[u8]) -> Result<(Given, &[u8]), JournalFault>
+    ensures { GivesSeen (λ x. (x.0, x.1.now)) JournalFault.Memory (given_at total bytes.now) result }
+{
+    let (count, rest) = u32_at(total, bytes)?;
+    pairs_at(alloc, total, count, rest)
+}
+
+#[tactic(auto, unfolding(crate::specs::Reading::create_at))]
+fn create_at(alloc: Global, total: usize, bytes: &[u8]) -> Result<(Change, &[u8]), JournalFault>
+    ensures { GivesSeen (λ x. (x.0, x.1.now)) JournalFault.Memory (create_at total bytes.now) result }
+{
+    let (model, rest) = text_at(total, bytes)?;
+    let model = Name::from_bytes(alloc, model)?;
+    let (values, rest) = given_at(alloc, total, rest)?;
+    Ok((Change::Create { model, values }, rest))
+}
+
+#[tactic(auto, unfolding(crate::specs::Reading::update_at))]
+fn update_at(alloc: Global, total: usize, bytes: &[u8]) -> Result<(Change, &[u8]), JournalFault>
+    ensures { GivesSeen (λ x. (x.0, x.1.now)) JournalFault.Memory (update_at total bytes.now) result }
+{
+    let (model, rest) = text_at(total, bytes)?;
+    let model = Name::from_bytes(alloc, model)?;
+    let (id, rest) = u32_at(total, rest)?;
+    let (values, rest) = given_at(alloc, total, rest)?;
+    Ok((Change::Update { model, id, values }, rest))
+}
+
+#[tactic(auto, unfolding(crate::specs::Reading::destroy_at))]
+fn destroy_at(alloc: Global, total: usize, bytes: &[u8]) -> Result<(Change, &[u8]), JournalFault>
+    ensures { GivesSeen (λ x. (x.0, x.1.now)) JournalFault.Memory (destroy_at total bytes.now) result }
+{
+    let (model, rest) = text_at(total, bytes)?;
+    let model = Name::from_bytes(alloc, model)?;
+    let (id, rest) = u32_at(total, rest)?;
+    Ok((Change::Destroy { model, id }, rest))
+}
+
+#[tactic(auto, unfolding(crate::specs::Reading::touch_at))]
+fn touch_at(alloc: Global, total: usize, bytes: &[u8]) -> Result<(Change, &[u8]), JournalFault>
+    ensures { GivesSeen (λ x. (x.0, x.1.now)) JournalFault.Memory (touch_at total bytes.now) result }
+{
+    let (model, rest) = text_at(total, bytes)?;
+    let model = Name::from_bytes(alloc, model)?;
+    let (id, rest) = u32_at(total, rest)?;
+    Ok((Change::Touch { model, id }, rest))
+}
+
+#[tactic(auto, unfolding(crate::specs::Reading::tagged_change))]
+fn tagged_change(
+    alloc: Global,
+    total: usize,
+    at: u64,
+    tag: u8,
+    bytes: &[u8],
+) -> Result<(Change, &[u8]), JournalFault>
+    ensures { GivesSeen (λ x. (x.0, x.1.now)) JournalFault.Memory (tagged_change total at tag bytes.now) result }
+{
+    match tag {
+        1 => create_at(alloc, total, bytes),
+        2 => update_at(alloc, total, bytes),
+        3 => destroy_at(alloc, total, bytes),
+        4 => touch_at(alloc, total, bytes),
+        _ => Err(JournalFault::BadTag { at }),
+    }
+}
+
+#[tactic(auto, unfolding(crate::specs::Reading::change_at))]
+fn change_at(alloc: Global, total: usize, bytes: &[u8]) -> Result<(Change, &[u8]), JournalFault>
+    ensures { GivesSeen (λ x. (x.0, x.1.now)) JournalFault.Memory (change_at total bytes.now) result }
+{
+    let (tag, rest) = byte_at(total, bytes)?;
+    tagged_change(alloc, total, place(total, bytes), tag, rest)
+}
+
+fn list_at(
+    alloc: Global,
+    total: usize,
+    count: u32,
+    bytes: &[u8],
+) -> Result<(Changes, &[u8]), JournalFault>
+    ensures { GivesSeen (λ x. (x.0, x.1.now)) JournalFault.Memory (repeated (change_at total) count bytes.now) result }
+{
+    let mut changes = Items::new(alloc);
+    let mut rest = bytes;
+    for _ in 0..count {
+        let (change, after) = change_at(alloc, total, rest)?;
+        changes.push(change)?;
+        rest = after;
+    }
+    Ok((changes, rest))
+}
+
+#[tactic(auto, unfolding(crate::specs::Reading::changes_at))]
+fn changes_at(alloc: Global, total: usize, bytes: &[u8]) -> Result<(Changes, &[u8]), JournalFault>
+    ensures { GivesSeen (λ x. (x.0, x.1.now)) JournalFault.Memory (changes_at total bytes.now) result }
+{
+    let (count, rest) = u32_at(total, bytes)?;
+    list_at(alloc, total, count, rest)
+}
