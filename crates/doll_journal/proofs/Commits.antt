@@ -21,7 +21,7 @@ use Rattle.doll_journal.specs.Reading.{Field, place, byte_at, number_at, text_at
 use Rattle.doll_journal.specs.Spelling.{text_bytes, value_bytes, pair_bytes, given_bytes, change_bytes, changes_bytes, spelling}
 use Rattle.doll_journal.specs.Storable.{FitsValue, FitsPair, FitsChange, IsStorable, OneSpelling}
 use Rattle.doll_journal.proofs.Fields.{IsBytes, bind_ok, check_ok, ok_is, Takes, Takes-then, Takes-tagged, wide32, wide64, byte_takes, number_takes, number_again, text_takes, text_again}
-use Rattle.doll_journal.proofs.Lengths.{pair_long, change_long, count_le}
+use Rattle.doll_journal.proofs.Parts.{pair_long, change_long, count_le}
 
 -- which way a test went
 chosen : {A : Type 0} (b : Bool) (x y z : A) → cond b x y ≡ z → ((b ≡ true) × (x ≡ z)) ⊎ ((b ≡ false) × (y ≡ z))

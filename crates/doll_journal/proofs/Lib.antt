@@ -1,6 +1,6 @@
 pub mod Commits
 pub mod Fields
 pub mod Fronts
-pub mod Lengths
+pub mod Parts
 pub mod Repeated
 pub mod Texts

@@ -6,6 +6,7 @@ pub mod decoding;
 pub mod encoding;
 pub mod fault;
 pub mod forms;
+pub mod lengths;
 
 pub use change::{Change, Changes, Commit, Given};
 pub use decoding::{decode, one_spelling};

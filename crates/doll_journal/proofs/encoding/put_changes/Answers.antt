@@ -1,7 +1,7 @@
 use Rattle.std.proofs.Common.{◌<◌, ◌^◌, length, arith, rules}
 use Rattle.std.specs.List.{flat_map}
 use Rattle.doll_journal.specs.Spelling.{change_bytes}
-use Rattle.doll_journal.proofs.Lengths.{change_long, count_le, item_below, behind_count}
+use Rattle.doll_journal.proofs.Parts.{change_long, count_le, item_below, behind_count}
 use Rattle.doll_journal.proofs.encoding.put_changes.Goals as goal
 
 pub overflow_cast-changes : goal.overflow_cast-changes

@@ -1,7 +1,7 @@
 use Rattle.std.proofs.Common.{◌<◌, ◌^◌, length, arith, rules}
 use Rattle.std.specs.List.{flat_map}
 use Rattle.doll_journal.specs.Spelling.{pair_bytes}
-use Rattle.doll_journal.proofs.Lengths.{pair_long, count_le, item_below, behind_count}
+use Rattle.doll_journal.proofs.Parts.{pair_long, count_le, item_below, behind_count}
 use Rattle.doll_journal.proofs.encoding.put_given.Goals as goal
 
 pub overflow_cast-given : goal.overflow_cast-given
