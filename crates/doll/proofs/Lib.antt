@@ -1,5 +1,9 @@
 pub mod Digits
 pub mod Fitting
 pub mod Growth
+pub mod Jsons
+pub mod Keeping
+pub mod Longs
 pub mod Members
+pub mod Steps
 pub mod Views

@@ -95,4 +95,4 @@ parts_of bundle = do
   source ← source_of named.template views
   commits ← get (codes "commits") bundle
   where_holds (has_only bundle_keys bundle && has_plain_model schema && commits_create commits)
-    (record { schema = schema; path = named.path; template = named.template; owner = named.owner; source = source; commits = commits })
+      (record { schema = schema; path = named.path; template = named.template; owner = named.owner; source = source; commits = commits })

@@ -130,7 +130,12 @@ fn lacks_value(model: &Model, given: &[(Name, Value)]) -> bool
 }
 
 /// What is wrong with a creation, the first in order.
-pub fn creation_fault(model: &Model, next: u32, name: &Name, given: &[(Name, Value)]) -> Option<Kind>
+pub fn creation_fault(
+    model: &Model,
+    next: u32,
+    name: &Name,
+    given: &[(Name, Value)],
+) -> Option<Kind>
     ensures { result ≡ creation_fault model.now next name.now given.now }
 {
     if name.as_bytes() != model.name.as_bytes() {
@@ -149,7 +154,12 @@ pub fn creation_fault(model: &Model, next: u32, name: &Name, given: &[(Name, Val
 }
 
 /// The record that is created: each attribute with the value that it is given, no parents.
-pub fn created_row(alloc: Global, model: &Model, given: &[(Name, Value)], moment: u64) -> Result<Row, Memory>
+pub fn created_row(
+    alloc: Global,
+    model: &Model,
+    given: &[(Name, Value)],
+    moment: u64,
+) -> Result<Row, Memory>
     ensures { IfOk result (λ row. row ≡ created_row model.now given.now moment) }
 {
     let mut values = Items::new(alloc);

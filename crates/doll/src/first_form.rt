@@ -130,7 +130,11 @@ fn source_of<'a>(template: &str, views: &'a Map<String, Value>) -> Option<&'a Va
 {
     let (name, source) = only_member(views)?;
     let path = virtual_path(name.as_bytes())?;
-    if path == template.as_bytes() { Some(source) } else { None }
+    if path == template.as_bytes() {
+        Some(source)
+    } else {
+        None
+    }
 }
 
 /// The one member of an object.

@@ -43,7 +43,11 @@ pub fn record_path(path: &[u8]) -> Option<&[u8]>
         return None;
     }
     let before = &path[..path.len() - 4];
-    if is_literal_path(before) { Some(before) } else { None }
+    if is_literal_path(before) {
+        Some(before)
+    } else {
+        None
+    }
 }
 
 /// Whether this is the last segment of a virtual path: a word, or a word behind an underscore.
@@ -92,7 +96,6 @@ fn segment_len(path: &[u8]) -> usize
     }
     path.len()
 }
-
 
 /// The id that decimal digits name: from 1 to 4,294,967,295, without a zero before it.
 fn id_of(digits: &[u8]) -> Option<u32>

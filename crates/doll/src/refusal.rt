@@ -40,7 +40,11 @@ pub enum Refusal {
     /// The bundle is of a form that isn't read yet.
     NotBuilt,
     /// A part of the bundle is refused. `number` is that of the model or commit that the fault is in, else 0.
-    Refused { part: BundlePart, number: u64, kind: Kind },
+    Refused {
+        part: BundlePart,
+        number: u64,
+        kind: Kind,
+    },
     /// No memory was found.
     Memory,
 }

@@ -1,0 +1,79 @@
+-- What the program answers to its words and its input (this project's own).
+use Rattle.std.specs.Prelude.{ℕ, ◌≡◌, ◌≢◌, ◌⊎◌, Bool, nat_lt, List, [], ◌∷◌, ◌++◌, length, bytes_eq, Option, None, Some, Result, Ok, Err, codes, is_some, if◌then◌else◌}
+use Rattle.std.specs.Option.{option_map_or}
+use Rattle.doll_schema.specs.declared.value.Val.TheVariants as val
+use Rattle.doll_table.specs.Tables.{row_of}
+use Rattle.doll_plain.specs.Direct.{Env, direct, plain_scene}
+use Rattle.doll.specs.declared.refusal.Refusal.{Refusal}
+use Rattle.doll.specs.Paths.{requested_id}
+use Rattle.doll.specs.declared.site.Site.{Site}
+use Rattle.doll.specs.Sites.{site_of}
+use Rattle.doll.specs.declared.reply.Reply.{Reply}
+use Rattle.doll_base.specs.Streams.{Appended, AppendedPart}
+
+-- a text and a line end
+abbrev pub line : List ℕ → List ℕ
+line text = text ++ 10 ∷ []
+
+abbrev pub usage : Reply
+usage = record { status = 2; text = line (codes "usage: doll plain PATH | lint | digests | replay | workload N | serve BUNDLE ADDRESS [JOURNAL]") }
+
+abbrev pub too_long : Reply
+too_long = record { status = 12; text = line (codes "too long 16777216") }
+
+abbrev pub not_built : Reply
+not_built = record { status = 4; text = line (codes "not built") }
+
+abbrev pub unknown : List ℕ → Reply
+unknown path = record { status = 5; text = line (codes "unknown " ++ path) }
+
+-- the record that a request names, where it lives
+abbrev pub living : Site → Option ℕ → Option ℕ
+living site None = None
+living site (Some id) = if is_some (row_of site.table 0 id) then Some id else None
+
+-- the page of a record: the direct rendering of the template with the record under its model's name
+abbrev pub page_of : Site → ℕ → List ℕ
+page_of site id = direct (plain_scene site.schema site.table) site.tree ((site.owner, val.Record 0 id) ∷ [])
+
+-- the page of a path, where its record lives
+abbrev pub page_reply : Site → List ℕ → Reply
+page_reply site path = option_map_or (λ id. record { status = 0; text = page_of site id }) (living site (requested_id site.path path)) (unknown path)
+
+abbrev pub site_reply : Result Site Refusal → List ℕ → Reply
+site_reply (Ok site) path = page_reply site path
+site_reply (Err why) path = not_built
+
+-- a page of a site that is read from the input
+abbrev pub plain_reply : List ℕ → List ℕ → Reply
+plain_reply path input = if nat_lt 16777216 (length input) then too_long else site_reply (site_of input) path
+
+-- the path of the words `plain PATH`
+abbrev pub plain_path : List (List ℕ) → Option (List ℕ)
+plain_path (word ∷ path ∷ []) = if bytes_eq word (codes "plain") then Some path else None
+plain_path words = None
+
+-- the answer to words and an input
+abbrev pub reply_of : List (List ℕ) → List ℕ → Reply
+reply_of words input = option_map_or (λ path. plain_reply path input) (plain_path words) usage
+
+-- This is the answer where the source tells its bytes; else it is that of some input.
+abbrev pub IsReply : List (List ℕ) → Option (List ℕ) → Reply → Type 0
+IsReply words None reply = (input : List ℕ) × (reply ≡ reply_of words input)
+IsReply words (Some input) reply = reply ≡ reply_of words input
+
+-- Statuses other than those of a failed read, a failed write and want of memory answer the words and the input.
+abbrev pub IsAnswer : ℕ → Type 0
+IsAnswer status = (status ≢ 7) × (status ≢ 8) × (status ≢ 9)
+
+-- A failed read and want of memory answer nothing.
+abbrev pub IsSilent : ℕ → Type 0
+IsSilent status = (status ≡ 7) ⊎ (status ≡ 9)
+
+-- The status is the reply's, and the sink holds the reply's text behind what it held.
+abbrev pub Answers : List (List ℕ) → Option (List ℕ) → Option (List ℕ) → Option (List ℕ) → ℕ → Type 0
+Answers words left before after status = (reply : Reply) × IsReply words left reply × (reply.status ≡ status) × Appended before after reply.text
+
+-- The sink holds a first part of the reply's text behind what it held.
+abbrev pub AnswersPart : List (List ℕ) → Option (List ℕ) → Option (List ℕ) → Option (List ℕ) → Type 0
+AnswersPart words left before after = (reply : Reply) × IsReply words left reply × AppendedPart before after reply.text

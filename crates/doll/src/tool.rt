@@ -1,0 +1,88 @@
+//! The program over its words, a folder, a source, a sink and a clock.
+
+ghost use Rattle.std.specs.Prelude.{◌≡◌, map, string_bytes, IfOk, IsErrOf};
+ghost use Rattle.doll_base.specs.Faults.{Rose, KeepsCount};
+ghost use Rattle.doll_base.specs.Streams.{Appended, AppendedPart};
+ghost use Rattle.doll.specs.declared.tool.Unanswered.TheVariants as unanswered;
+ghost use Rattle.doll.specs.Replies.{IsReply, Answers, AnswersPart, IsAnswer, IsSilent};
+
+use crate::reply::{LONGEST_INPUT, Reply, plain_path, plain_reply, too_long, usage};
+use doll_base::{Clock, Folder, InputFault, Sink, Source, read_all, write_whole};
+use doll_expr::Memory;
+use std::alloc::Global;
+
+/// How the program ends: 0 where what was asked is done.
+pub type Status = u8;
+
+/// Reading the source, a folder or a connection failed.
+pub const READ_FAILED: Status = 7;
+
+/// Writing failed.
+pub const WRITE_FAILED: Status = 8;
+
+/// No memory was found.
+pub const NO_MEMORY: Status = 9;
+
+/// Why there is no reply.
+#[derive(Drop)]
+enum Unanswered {
+    Failed,
+    Memory,
+}
+
+impl From<Memory> for Unanswered {
+    ghost from_gives = { λ _ e. e ≡ unanswered.Memory };
+
+    fn from(_error: Memory) -> Unanswered {
+        Unanswered::Memory
+    }
+}
+
+/// The reply to the words and what the source gives.
+fn reply_to<S: Source>(alloc: Global, words: &[String], source: &mut S) -> Result<Reply, Unanswered>
+    ensures reply { IfOk result (λ reply. IsReply (map string_bytes words.now) (S.left source.old) reply) }
+    ensures status { IfOk result (λ reply. IsAnswer reply.status) }
+    ensures failed { IsErrOf result Unanswered.Failed → Rose (S.faults source.old) (S.faults source.new) }
+    ensures count { KeepsCount (S.faults source.old) (S.faults source.new) }
+{
+    let Some(path) = plain_path(words) else {
+        return Ok(usage(alloc)?);
+    };
+    match read_all(alloc, source, LONGEST_INPUT) {
+        Ok(input) => Ok(plain_reply(alloc, path, input.as_slice())?),
+        Err(InputFault::TooLong) => Ok(too_long(alloc)?),
+        Err(InputFault::Failed) => Err(Unanswered::Failed),
+        Err(InputFault::Memory) => Err(Unanswered::Memory),
+    }
+}
+
+/// Runs the program over these words. `plain PATH` reads a bundle from the source and writes the page of the path.
+pub fn run_tool<F: Folder, S: Source, K: Sink, C: Clock>(
+    alloc: Global,
+    words: &[String],
+    folder: &mut F,
+    source: &mut S,
+    sink: &mut K,
+    clock: &mut C,
+) -> Status
+    // Where nothing failed and memory was found, the status and what is written are those of the words and the input.
+    ensures answer { IsAnswer result → Answers (map string_bytes words.now) (S.left source.old) (K.held sink.old) (K.held sink.new) result }
+    // It doesn't give up by itself.
+    ensures read_failed { result ≡ READ_FAILED → Rose (S.faults source.old) (S.faults source.new) }
+    ensures write_failed { result ≡ WRITE_FAILED → Rose (K.faults sink.old) (K.faults sink.new) × AnswersPart (map string_bytes words.now) (S.left source.old) (K.held sink.old) (K.held sink.new) }
+    // Without an answer nothing is written.
+    ensures silent { IsSilent result → K.held sink.new ≡ K.held sink.old }
+    // Neither the folder nor the clock is asked yet.
+    ensures folder { F.faults folder.new ≡ F.faults folder.old }
+    ensures clock { C.readings clock.new ≡ C.readings clock.old }
+{
+    let reply = match reply_to(alloc, words, source) {
+        Ok(reply) => reply,
+        Err(Unanswered::Failed) => return READ_FAILED,
+        Err(Unanswered::Memory) => return NO_MEMORY,
+    };
+    match write_whole(sink, reply.text.as_slice()) {
+        Ok(()) => reply.status,
+        Err(_) => WRITE_FAILED,
+    }
+}
