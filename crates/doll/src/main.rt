@@ -34,3 +34,6 @@ fn main(rt: HostRuntime) -> io::Result<ExitCode> {
     );
     Ok(ExitCode::from(status))
 }
+
+#[cfg(test)]
+mod tests;
