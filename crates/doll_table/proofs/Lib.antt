@@ -5,3 +5,4 @@ pub mod Children
 pub mod Kept
 pub mod Beyond
 pub mod Fitting
+pub mod Growing
