@@ -1,5 +1,6 @@
 -- Lists that are read from the front, of which the first items are made already.
 use Rattle.std.proofs.Common.{◌≡◌, List, [], ◌∷◌, ◌++◌, Option, Some, None, refl, ap, append_assoc, sym}
+use Rattle.std.specs.List.{AllByRecursion}
 use Rattle.std.proofs.lemmas.List.{append-nil}
 use Rattle.doll_journal.specs.Forms.{with_first}
 
@@ -29,3 +30,8 @@ front_stops front = refl
 pub front_ends : {X : Type 0} (front : List X) → with_front front (Some []) ≡ Some front
 unfolding with_front
 front_ends front = ap (λ xs. Some xs) (append-nil front)
+
+-- what holds of each item made holds with one more
+pub all_pushed : {X : Type 0} (P : X → Type 0) (xs : List X) (x : X) → AllByRecursion P xs → P x → AllByRecursion P (xs ++ x ∷ [])
+all_pushed P [] x all one = (one, tt)
+all_pushed P (y ∷ ys) x all one = (all.0, all_pushed P ys x all.1 one)

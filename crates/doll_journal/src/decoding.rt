@@ -124,16 +124,13 @@ fn text_at(total: usize, bytes: &[u8]) -> Result<(&[u8], &[u8]), JournalFault>
 {
     let (len, rest) = u32_at(total, bytes)?;
     let len = len as usize;
+    let at = place(total, rest);
     if rest.len() < len {
-        return Err(JournalFault::Truncated {
-            at: place(total, rest),
-        });
+        return Err(JournalFault::Truncated { at });
     }
     let (text, after) = rest.split_at(len);
     if !is_text(text) {
-        return Err(JournalFault::BadText {
-            at: place(total, rest),
-        });
+        return Err(JournalFault::BadText { at });
     }
     Ok((text, after))
 }

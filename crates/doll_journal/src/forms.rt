@@ -1,11 +1,15 @@
 //! Reading changes from JSON.
 
-ghost use Rattle.std.specs.Prelude.{◌≡◌, codes, IfOk, is_some};
+ghost use Rattle.std.specs.Prelude.{◌≡◌, ◌<◌, ◌^◌, codes, IfOk, IfSome, is_some};
+ghost use Rattle.std.specs.List.{AllByRecursion};
+ghost use Rattle.std.specs.Str.{IsUtf8};
 ghost use Rattle.serde_json.specs.View.{items_view, members_view, view};
 ghost use Rattle.serde_json.specs.Find.{get};
+ghost use Rattle.doll_journal.specs.Storable.{FitsValue, FitsPair, FitsChange, AreStorable};
 ghost use Rattle.doll_journal.specs.Forms.{value_in, pair_in, pairs_in, given_in, given_at, id_at, model_at, short, create_in, update_in, destroy_in, touch_in, change_in, list_in, changes_in};
 
 use crate::change::{Change, Changes, Given};
+use crate::lengths::have_room;
 use doll_expr::{Items, Memory, Name, Text};
 use doll_schema::Value;
 use doll_schema::json::{has_only, object_at, text_at, whole_at};
@@ -13,18 +17,28 @@ use serde_json::Map;
 use std::alloc::Global;
 
 /// The changes that the JSON value is, or None where it is no array of changes.
+///
+/// A commit may have them, whoever makes it: where their bytes are too many for one, no memory is answered.
 pub fn changes_of(alloc: Global, json: &serde_json::Value) -> Result<Option<Changes>, Memory>
-    ensures { IfOk result (λ o. o ≡ changes_in (view json.now)) }
+    ensures exact { IfOk result (λ o. o ≡ changes_in (view json.now)) }
+    ensures storable { IfOk result (λ o. IfSome o AreStorable) }
 {
     let Some(items) = json.as_array() else {
         return Ok(None);
     };
-    changes_in(alloc, items.as_slice())
+    let Some(changes) = changes_in(alloc, items.as_slice())? else {
+        return Ok(None);
+    };
+    if !have_room(changes.as_slice()) {
+        return Err(Memory);
+    }
+    Ok(Some(changes))
 }
 
 #[tactic(auto, using(std::proofs::lemmas::Grind::common_steps, crate::proofs::Fronts::front_starts, crate::proofs::Fronts::front_grows, crate::proofs::Fronts::front_stops, crate::proofs::Fronts::front_ends))]
 fn changes_in(alloc: Global, items: &[serde_json::Value]) -> Result<Option<Changes>, Memory>
-    ensures { IfOk result (λ o. o ≡ list_in (items_view items.now)) }
+    ensures exact { IfOk result (λ o. o ≡ list_in (items_view items.now)) }
+    ensures fits { IfOk result (λ o. IfSome o (AllByRecursion FitsChange)) }
 {
     let mut changes = Items::new(alloc);
     for item in items {
@@ -37,7 +51,8 @@ fn changes_in(alloc: Global, items: &[serde_json::Value]) -> Result<Option<Chang
 }
 
 fn change_in(alloc: Global, json: &serde_json::Value) -> Result<Option<Change>, Memory>
-    ensures { IfOk result (λ o. o ≡ change_in (view json.now)) }
+    ensures exact { IfOk result (λ o. o ≡ change_in (view json.now)) }
+    ensures fits { IfOk result (λ o. IfSome o FitsChange) }
 {
     if json.get("create").is_some() {
         return create_in(alloc, json);
@@ -52,7 +67,8 @@ fn change_in(alloc: Global, json: &serde_json::Value) -> Result<Option<Change>, 
 }
 
 fn create_in(alloc: Global, json: &serde_json::Value) -> Result<Option<Change>, Memory>
-    ensures { IfOk result (λ o. o ≡ create_in (view json.now)) }
+    ensures exact { IfOk result (λ o. o ≡ create_in (view json.now)) }
+    ensures fits { IfOk result (λ o. IfSome o FitsChange) }
 {
     if !has_only(json, &["create", "values"]) {
         return Ok(None);
@@ -67,7 +83,8 @@ fn create_in(alloc: Global, json: &serde_json::Value) -> Result<Option<Change>, 
 }
 
 fn update_in(alloc: Global, json: &serde_json::Value) -> Result<Option<Change>, Memory>
-    ensures { IfOk result (λ o. o ≡ update_in (view json.now)) }
+    ensures exact { IfOk result (λ o. o ≡ update_in (view json.now)) }
+    ensures fits { IfOk result (λ o. IfSome o FitsChange) }
 {
     if !has_only(json, &["update", "id", "values"]) {
         return Ok(None);
@@ -85,7 +102,8 @@ fn update_in(alloc: Global, json: &serde_json::Value) -> Result<Option<Change>, 
 }
 
 fn destroy_in(alloc: Global, json: &serde_json::Value) -> Result<Option<Change>, Memory>
-    ensures { IfOk result (λ o. o ≡ destroy_in (view json.now)) }
+    ensures exact { IfOk result (λ o. o ≡ destroy_in (view json.now)) }
+    ensures fits { IfOk result (λ o. IfSome o FitsChange) }
 {
     if !has_only(json, &["destroy", "id"]) {
         return Ok(None);
@@ -100,7 +118,8 @@ fn destroy_in(alloc: Global, json: &serde_json::Value) -> Result<Option<Change>,
 }
 
 fn touch_in(alloc: Global, json: &serde_json::Value) -> Result<Option<Change>, Memory>
-    ensures { IfOk result (λ o. o ≡ touch_in (view json.now)) }
+    ensures exact { IfOk result (λ o. o ≡ touch_in (view json.now)) }
+    ensures fits { IfOk result (λ o. IfSome o FitsChange) }
 {
     if !has_only(json, &["touch", "id"]) {
         return Ok(None);
@@ -115,7 +134,8 @@ fn touch_in(alloc: Global, json: &serde_json::Value) -> Result<Option<Change>, M
 }
 
 fn id_at(json: &serde_json::Value) -> Option<u32>
-    ensures { result ≡ id_at (view json.now) }
+    ensures exact { result ≡ id_at (view json.now) }
+    ensures fits { IfSome result (λ id. id < 2 ^ 32) }
 {
     let id = whole_at(json, "id")?;
     if id < 4_294_967_296 {
@@ -126,7 +146,8 @@ fn id_at(json: &serde_json::Value) -> Option<u32>
 }
 
 fn model_at(alloc: Global, json: &serde_json::Value, key: &str) -> Result<Option<Name>, Memory>
-    ensures { IfOk result (λ o. o ≡ model_at key.now (view json.now)) }
+    ensures exact { IfOk result (λ o. o ≡ model_at key.now (view json.now)) }
+    ensures fits { IfOk result (λ o. IfSome o IsUtf8) }
 {
     match text_at(json, key) {
         None => Ok(None),
@@ -138,7 +159,8 @@ fn model_at(alloc: Global, json: &serde_json::Value, key: &str) -> Result<Option
 const LONGEST: usize = 1_048_576;
 
 fn short_name(alloc: Global, text: &str) -> Result<Option<Name>, Memory>
-    ensures { IfOk result (λ o. o ≡ short text.now) }
+    ensures exact { IfOk result (λ o. o ≡ short text.now) }
+    ensures fits { IfOk result (λ o. IfSome o IsUtf8) }
 {
     if text.len() > LONGEST {
         return Ok(None);
@@ -147,7 +169,8 @@ fn short_name(alloc: Global, text: &str) -> Result<Option<Name>, Memory>
 }
 
 fn short_text(alloc: Global, text: &str) -> Result<Option<Text>, Memory>
-    ensures { IfOk result (λ o. o ≡ short text.now) }
+    ensures exact { IfOk result (λ o. o ≡ short text.now) }
+    ensures fits { IfOk result (λ o. IfSome o IsUtf8) }
 {
     if text.len() > LONGEST {
         return Ok(None);
@@ -156,7 +179,8 @@ fn short_text(alloc: Global, text: &str) -> Result<Option<Text>, Memory>
 }
 
 fn given_at(alloc: Global, json: &serde_json::Value) -> Result<Option<Given>, Memory>
-    ensures { IfOk result (λ o. o ≡ given_at (view json.now)) }
+    ensures exact { IfOk result (λ o. o ≡ given_at (view json.now)) }
+    ensures fits { IfOk result (λ o. IfSome o (AllByRecursion FitsPair)) }
 {
     match object_at(json, "values") {
         None => Ok(None),
@@ -169,7 +193,8 @@ fn given_in(
     alloc: Global,
     members: &Map<String, serde_json::Value>,
 ) -> Result<Option<Given>, Memory>
-    ensures { IfOk result (λ o. o ≡ given_in (members_view members.now.entries)) }
+    ensures exact { IfOk result (λ o. o ≡ given_in (members_view members.now.entries)) }
+    ensures fits { IfOk result (λ o. IfSome o (AllByRecursion FitsPair)) }
 {
     if members.len() > 64 {
         return Ok(None);
@@ -182,7 +207,8 @@ fn pairs_in(
     alloc: Global,
     members: &Map<String, serde_json::Value>,
 ) -> Result<Option<Given>, Memory>
-    ensures { IfOk result (λ o. o ≡ pairs_in (members_view members.now.entries)) }
+    ensures exact { IfOk result (λ o. o ≡ pairs_in (members_view members.now.entries)) }
+    ensures fits { IfOk result (λ o. IfSome o (AllByRecursion FitsPair)) }
 {
     let mut given = Items::new(alloc);
     for (name, json) in members.iter() {
@@ -199,7 +225,8 @@ fn pair_in(
     name: &str,
     json: &serde_json::Value,
 ) -> Result<Option<(Name, Value)>, Memory>
-    ensures { IfOk result (λ o. o ≡ pair_in name.now (view json.now)) }
+    ensures exact { IfOk result (λ o. o ≡ pair_in name.now (view json.now)) }
+    ensures fits { IfOk result (λ o. IfSome o FitsPair) }
 {
     let Some(name) = short_name(alloc, name)? else {
         return Ok(None);
@@ -211,7 +238,8 @@ fn pair_in(
 }
 
 fn value_in(alloc: Global, json: &serde_json::Value) -> Result<Option<Value>, Memory>
-    ensures { IfOk result (λ o. o ≡ value_in (view json.now)) }
+    ensures exact { IfOk result (λ o. o ≡ value_in (view json.now)) }
+    ensures fits { IfOk result (λ o. IfSome o FitsValue) }
 {
     match json {
         serde_json::Value::Null => Ok(Some(Value::Nil)),
