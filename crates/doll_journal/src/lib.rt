@@ -13,3 +13,6 @@ pub use decoding::{decode, one_spelling};
 pub use encoding::encode;
 pub use fault::JournalFault;
 pub use forms::changes_of;
+
+#[cfg(test)]
+mod tests;
