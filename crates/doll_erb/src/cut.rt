@@ -1,9 +1,13 @@
 //! Cutting a template into texts and tags.
 
 ghost use Rattle.std.specs.Prelude.{◌≡◌, ◌<◌, ◌≤◌, ◌+◌, ◌^◌, length, IfOk, IfSome, Ok, slice_index};
+ghost use Rattle.doll_expr.specs.Gives.{Gives};
+ghost use Rattle.doll_erb.specs.Cuts.{cut_of, Tiles};
 ghost use Rattle.doll_erb.specs.Pieces.{begins_with, place_of, line_end, kind_of, mark_len, trims, tag_piece, text_piece, opened_piece, piece_at, IsInside};
 
 use crate::node::ErbFault;
+use doll_expr::Items;
+use std::alloc::Global;
 
 /// A part of a text: from the byte at `from` up to, and without, that at `to`.
 #[derive(Clone, Copy, Debug, PartialEq, Eq)]
@@ -37,6 +41,28 @@ pub struct Tag {
     pub content: Span,
     /// Whether the tag ends with `-%>`.
     pub trim: bool,
+}
+
+/// The pieces of a template, in its order.
+pub type Tags = Items<Tag>;
+
+/// Cuts a template into its pieces: texts and tags. The first tag that isn't closed or isn't known is the fault.
+pub fn cut(alloc: Global, text: &str) -> Result<Tags, ErbFault>
+    requires { length text.now ≤ 262144 }
+    ensures exact { Gives ErbFault.Memory (cut_of text.now) result }
+    // No byte is left out, and none stands in two pieces.
+    ensures tiles { IfOk result (λ tags. Tiles 0 tags (length text.now)) }
+{
+    let mut tags = Items::new(alloc);
+    let mut at = 0;
+    let mut rest = text.as_bytes();
+    while !rest.is_empty() {
+        let tag = piece_at(at, rest)?;
+        rest = rest.split_at((tag.span.to - at) as usize).1;
+        at = tag.span.to;
+        tags.push(tag)?;
+    }
+    Ok(tags)
 }
 
 fn begins_with(bytes: &[u8], a: u8, b: u8) -> bool
