@@ -2,7 +2,7 @@
 use Rattle.std.proofs.lemmas.List.{append-nil}
 use Rattle.std.proofs.Common.{◌≡◌, ◌≤◌, ◌<◌, ℕ, zero, suc, ◌+◌, ◌-◌, List, [], ◌∷◌, ◌++◌, length, drop, Result, Ok, Err, refl, ap, sym, ◌∙◌, arith, append_assoc, rules}
 use Rattle.doll_erb.specs.declared.node.ErbFault.{ErbFault}
-use Rattle.doll_erb.specs.declared.cut.Tag.{Tag}
+use Rattle.doll_erb.specs.declared.piece.Tag.{Tag}
 use Rattle.doll_erb.specs.Pieces.{piece_at, IsInside}
 use Rattle.doll_erb.specs.Cuts.{pieces_after, before, end_of, Tiles}
 
@@ -61,13 +61,15 @@ pieces_end at (byte ∷ bytes) front none = absurd (omega arith)
 -- a piece behind those that tile a text tiles more of it
 pub tiles_more : (from at len : ℕ) (tags : List Tag) (tag : Tag) → Tiles from tags at → IsInside at len tag → Tiles from (tags ++ tag ∷ []) tag.span.to
 tiles_more from at len [] tag tiles inside =
-    let same : from ≡ at = tiles in
-    (record {
-      from = inside.from ∙ sym same;
-      forward = omega arith;
-      within = omega arith;
-      content_from = omega arith;
-      content = inside.content;
-      content_to = inside.content_to;
-    }, refl)
+    let same : from ≡ at = tiles in (
+      record {
+        from = inside.from ∙ sym same;
+        forward = omega arith;
+        within = omega arith;
+        content_from = omega arith;
+        content = inside.content;
+        content_to = inside.content_to;
+      },
+      refl,
+    )
 tiles_more from at len (first ∷ tags) tag tiles inside = (tiles.0, tiles_more first.span.to at len tags tag tiles.1 inside)

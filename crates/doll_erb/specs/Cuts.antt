@@ -1,7 +1,7 @@
 -- The cut of a template: its pieces, one after another from the first byte to the last (this project's own).
 use Rattle.std.specs.Prelude.{ℕ, zero, suc, ◌+◌, ◌-◌, ◌≡◌, List, [], ◌∷◌, Result, Ok, Err}
 use Rattle.doll_erb.specs.declared.node.ErbFault.{ErbFault}
-use Rattle.doll_erb.specs.declared.cut.Tag.{Tag}
+use Rattle.doll_erb.specs.declared.piece.Tag.{Tag}
 use Rattle.doll_erb.specs.Pieces.{piece_at, IsInside}
 
 -- where a piece ends

@@ -9,9 +9,9 @@ use Rattle.doll_erb.specs.declared.node.Node.{Node, roll-Node}
 use Rattle.doll_erb.specs.declared.node.Node.TheOpen.{Node-F}
 use Rattle.doll_erb.specs.declared.node.ErbFault.{ErbFault}
 use Rattle.doll_erb.specs.declared.node.ErbFault.TheVariants.{NotBuilt}
-use Rattle.doll_erb.specs.declared.cut.Tag.{Tag}
-use Rattle.doll_erb.specs.declared.cut.TagKind.{TagKind}
-use Rattle.doll_erb.specs.declared.cut.TagKind.TheVariants as kind
+use Rattle.doll_erb.specs.declared.piece.Tag.{Tag}
+use Rattle.doll_erb.specs.declared.piece.TagKind.{TagKind}
+use Rattle.doll_erb.specs.declared.piece.TagKind.TheVariants as kind
 use Rattle.doll_erb.specs.Pieces.{piece_at}
 
 -- the bytes without the white space at their front

@@ -1,3 +1,6 @@
 pub mod Pieces
 pub mod Cuts
+pub mod Partials
+pub mod Marks
+pub mod Tags
 pub mod FirstForm

@@ -3,10 +3,10 @@ use Rattle.std.specs.Prelude.{ℕ, zero, suc, ◌+◌, ◌-◌, Bool, false, con
 use Rattle.std.specs.Option.{option_map}
 use Rattle.doll_erb.specs.declared.node.ErbFault.{ErbFault}
 use Rattle.doll_erb.specs.declared.node.ErbFault.TheVariants.{UnclosedTag, UnknownTag}
-use Rattle.doll_erb.specs.declared.cut.Span.{Span}
-use Rattle.doll_erb.specs.declared.cut.Tag.{Tag}
-use Rattle.doll_erb.specs.declared.cut.TagKind.{TagKind}
-use Rattle.doll_erb.specs.declared.cut.TagKind.TheVariants as kind
+use Rattle.doll_erb.specs.declared.piece.Span.{Span}
+use Rattle.doll_erb.specs.declared.piece.Tag.{Tag}
+use Rattle.doll_erb.specs.declared.piece.TagKind.{TagKind}
+use Rattle.doll_erb.specs.declared.piece.TagKind.TheVariants as kind
 
 -- whether bytes begin with these two
 abbrev pub begins_with : ℕ → ℕ → List ℕ → Bool

@@ -1,10 +1,17 @@
 //! Templates: texts and tags, and the tree that they make.
 #![tactic(auto)]
 
-pub mod cut;
+mod key;
+mod mark;
 pub mod node;
 pub mod parse;
+pub mod partial;
+pub mod piece;
+mod render;
+mod role;
+mod tag;
 
-pub use cut::{Span, Tag, TagKind};
 pub use node::{Arm, Arms, ErbFault, Key, KeyPart, Local, Locals, Node, Tree};
 pub use parse::parse_template;
+pub use partial::is_partial;
+pub use piece::{Span, Tag, TagKind, Tags, cut};

@@ -9,8 +9,8 @@ ghost use Rattle.doll_expr.specs.Tokens.{is_space};
 ghost use Rattle.doll_erb.specs.Pieces.{piece_at, IsInside};
 ghost use Rattle.doll_erb.specs.FirstForm.{skip_white, word_at, step_of, bytes_of, write_step, node_of, tree_of, GivesNode};
 
-use crate::cut::{Tag, TagKind, piece_at};
 use crate::node::{ErbFault, Node, Tree};
+use crate::piece::{Tag, TagKind, piece_at};
 use doll_expr::words::word_len;
 use doll_expr::{Boxed, Expr, Items, Memory, Name, Text, is_name};
 use std::alloc::Global;

@@ -1,7 +1,7 @@
 use Rattle.std.proofs.Common.{◌≡◌, ◌+◌, length}
 use Rattle.doll_erb.specs.Pieces.{place_of}
 use Rattle.doll_erb.proofs.Places.{from_place}
-use Rattle.doll_erb.proofs.cut.place_of.Given as goal
+use Rattle.doll_erb.proofs.piece.place_of.Given as goal
 
 -- the mark stands first where it stands first in what is left
 abbrev pub invariant-loop-rest : goal.invariant-loop-rest

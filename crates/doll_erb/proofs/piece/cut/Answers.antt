@@ -1,7 +1,7 @@
 use Rattle.std.proofs.Common.{◌≡◌, sym, ◌∙◌, ◌<◌, length, rules, ◌++◌, ◌∷◌, []}
 use Rattle.std.proofs.lemmas.Result.{err_from_is_err_and}
 use Rattle.doll_erb.proofs.Cuts.{pieces_more, pieces_fault, pieces_end, tiles_more}
-use Rattle.doll_erb.proofs.cut.cut.Goals as goal
+use Rattle.doll_erb.proofs.piece.cut.Goals as goal
 
 pub returns-clause-exact : goal.returns-clause-exact
 returns-clause-exact c = sym c.loop-rest.invariant.pieces ∙ pieces_end c.loop-rest.at c.loop-rest.rest.now c.loop-rest.tags (search rules)

@@ -1,7 +1,7 @@
 use Rattle.std.proofs.Common.{◌≡◌, ◌+◌, length}
 use Rattle.doll_erb.specs.Cuts.{pieces_after, Tiles}
 use Rattle.doll_erb.proofs.Cuts.{with_front}
-use Rattle.doll_erb.proofs.cut.cut.Given as goal
+use Rattle.doll_erb.proofs.piece.cut.Given as goal
 
 -- the pieces so far, before those of what is left, are those of the template
 abbrev pub invariant-loop-rest : goal.invariant-loop-rest

@@ -1,0 +1,131 @@
+//! What stands at the front of a tag's tokens, and what is expected there.
+
+ghost use Rattle.std.specs.Prelude.{◌≡◌, drop};
+ghost use Rattle.doll_expr.specs.Reading as reading;
+ghost use Rattle.doll_expr.specs.Reading.{GivesBy, first_kind};
+ghost use Rattle.doll_erb.specs.Marks as spec;
+ghost use Rattle.doll_erb.specs.Tags as tags;
+ghost use Rattle.doll_erb.specs.Tags.{ReadsTo};
+
+use crate::partial::is_partial;
+use doll_expr::{Expr, ExprFault, Mark, Name, Token, TokenKind, Word, expr_at, fault_at, stops_at};
+use std::alloc::Global;
+
+/// Whether the first token is this mark.
+pub(crate) fn is_mark(mark: Mark, tokens: &[Token]) -> bool
+    ensures { result ≡ spec.is_mark mark (first_kind tokens.now) }
+{
+    let [token, ..] = tokens else {
+        return false;
+    };
+    match &token.kind {
+        TokenKind::Mark(other) => *other == mark,
+        _ => false,
+    }
+}
+
+/// Whether the first token is this word.
+pub(crate) fn is_word(word: Word, tokens: &[Token]) -> bool
+    ensures { result ≡ spec.is_word word (first_kind tokens.now) }
+{
+    let [token, ..] = tokens else {
+        return false;
+    };
+    match &token.kind {
+        TokenKind::Word(other) => *other == word,
+        _ => false,
+    }
+}
+
+/// Whether the content ends here.
+pub(crate) fn is_end(tokens: &[Token]) -> bool
+    ensures { result ≡ reading.is_end (first_kind tokens.now) }
+{
+    let [token, ..] = tokens else {
+        return true;
+    };
+    matches!(&token.kind, TokenKind::End)
+}
+
+/// The place of the first token.
+pub(crate) fn place(tokens: &[Token]) -> u32
+    ensures { result ≡ reading.place tokens.now }
+{
+    match tokens {
+        [] => 0,
+        [token, ..] => token.at,
+    }
+}
+
+/// The tokens after the first.
+pub(crate) fn rest_of(tokens: &[Token]) -> &[Token]
+    ensures { result.now ≡ drop 1 tokens.now }
+{
+    match tokens {
+        [] => tokens,
+        [_, rest @ ..] => rest,
+    }
+}
+
+/// The tokens after this mark, which is expected at the front.
+pub(crate) fn mark_at(mark: Mark, tokens: &[Token]) -> Result<&[Token], ExprFault>
+    ensures { GivesBy (λ rest. rest.now) (spec.mark_at mark tokens.now) result }
+{
+    if !is_mark(mark, tokens) {
+        return Err(fault_at(None, tokens));
+    }
+    Ok(rest_of(tokens))
+}
+
+/// The tokens after this word, which is expected at the front.
+pub(crate) fn word_at(word: Word, tokens: &[Token]) -> Result<&[Token], ExprFault>
+    ensures { GivesBy (λ rest. rest.now) (spec.word_at word tokens.now) result }
+{
+    if !is_word(word, tokens) {
+        return Err(fault_at(None, tokens));
+    }
+    Ok(rest_of(tokens))
+}
+
+/// An expression. A dot with `each` behind it is a fault here.
+#[tactic(auto, unfolding(crate::specs::Tags::value_at))]
+pub(crate) fn value_at(alloc: Global, tokens: &[Token]) -> Result<(Expr, &[Token]), ExprFault>
+    ensures { ReadsTo (tags.value_at tokens.now) result }
+{
+    let (expr, rest) = expr_at(alloc, tokens)?;
+    if is_mark(Mark::Dot, rest) {
+        return Err(stops_at(None, rest));
+    }
+    Ok((expr, rest))
+}
+
+/// A name.
+pub(crate) fn name_at(alloc: Global, tokens: &[Token]) -> Result<(Name, &[Token]), ExprFault>
+    ensures { ReadsTo (tags.name_at tokens.now) result }
+{
+    let [token, rest @ ..] = tokens else {
+        return Err(fault_at(None, tokens));
+    };
+    match &token.kind {
+        TokenKind::Name(name) => Ok((name.copy(alloc)?, rest)),
+        _ => Err(fault_at(None, tokens)),
+    }
+}
+
+/// A text that names a partial.
+pub(crate) fn partial_at(alloc: Global, tokens: &[Token]) -> Result<(Name, &[Token]), ExprFault>
+    ensures { ReadsTo (tags.partial_at tokens.now) result }
+{
+    let [token, rest @ ..] = tokens else {
+        return Err(fault_at(None, tokens));
+    };
+    match &token.kind {
+        TokenKind::Text(text) => {
+            if !is_partial(text.as_bytes()) {
+                return Err(fault_at(None, tokens));
+            }
+            Ok((Name::from_bytes(alloc, text.as_bytes())?, rest))
+        }
+        _ => Err(fault_at(None, tokens)),
+    }
+}
