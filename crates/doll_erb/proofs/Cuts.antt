@@ -73,3 +73,8 @@ tiles_more from at len [] tag tiles inside =
       refl,
     )
 tiles_more from at len (first ∷ tags) tag tiles inside = (tiles.0, tiles_more first.span.to at len tags tag tiles.1 inside)
+
+-- pieces that tile a text are no more than its bytes
+pub tiles_count : (from to : ℕ) (tags : List Tag) → Tiles from tags to → from + length tags ≤ to
+tiles_count from to [] tiles = let same : from ≡ to = tiles in omega arith
+tiles_count from to (tag ∷ tags) tiles = let forward = tiles.0.forward in omega (arith, tiles_count tag.span.to to tags tiles.1, forward)

@@ -3,4 +3,6 @@ pub mod Cuts
 pub mod Partials
 pub mod Marks
 pub mod Tags
+pub mod Trees
+pub mod Parts
 pub mod FirstForm

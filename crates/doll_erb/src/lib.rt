@@ -10,6 +10,7 @@ pub mod piece;
 mod render;
 mod role;
 mod tag;
+pub mod template;
 
 pub use node::{Arm, Arms, ErbFault, Key, KeyPart, Local, Locals, Node, Tree};
 pub use parse::parse_template;
