@@ -16,3 +16,6 @@ pub use node::{Arm, Arms, ErbFault, Key, KeyPart, Local, Locals, Node, Tree};
 pub use parse::parse_template;
 pub use partial::is_partial;
 pub use piece::{Span, Tag, TagKind, Tags, cut};
+
+#[cfg(test)]
+mod tests;

@@ -3,12 +3,14 @@
 ghost use Rattle.std.specs.Prelude.{◌≡◌, ◌≤◌, ◌<◌, ◌+◌, ◌^◌, ◌++◌, length, drop, IfOk, IfSome, OnOk, MatchResult, Ok, Err};
 ghost use Rattle.doll_expr.specs.Gives.{Gives};
 ghost use Rattle.doll_erb.specs.declared.node.ErbFault.TheVariants.{Memory};
+ghost use Rattle.doll_erb.specs.declared.node.Node.{roll-Node};
+ghost use Rattle.doll_erb.specs.declared.node.Node.TheOpen.{Node-F};
 ghost use Rattle.doll_erb.specs.Trees as spec;
 ghost use Rattle.doll_erb.specs.Trees.{Open};
 ghost use Rattle.doll_erb.specs.Parts as parts;
 ghost use Rattle.doll_erb.specs.Parts.{IsRest};
 
-use crate::node::{Arm, ErbFault, Node, Tree};
+use crate::node::{Arm, Arms, ErbFault, Node, Tree};
 use crate::partial::dependency_of;
 use crate::piece::{Tag, TagKind, cut};
 use crate::role::{Closing, Opening, Role};
@@ -150,6 +152,23 @@ fn push_node(tree: &mut Tree, node: Option<Node>) -> Result<(), AllocError>
         tree.push(node)?;
     }
     Ok(())
+}
+
+/// An `if` by its arms and its last part.
+fn if_block<'a>(at: u32, arms: Arms, last: Body<'a>) -> Block<'a>
+    ensures node { result.node ≡ roll-Node (Node-F.If at arms last.entry.tree) }
+    ensures number { result.number ≡ last.entry.number }
+    ensures rest { result.rest ≡ last.entry.rest }
+{
+    Block {
+        node: Node::If {
+            at,
+            arms,
+            otherwise: last.tree,
+        },
+        number: last.number,
+        rest: last.rest,
+    }
 }
 
 /// What a tag does. A fault in it is told with its place.
@@ -360,26 +379,15 @@ fn read_if<'a>(
             }
             Closing::Else => {
                 let last = read_body(alloc, text, left, next, at, rest)?;
-                return Ok(Block {
-                    node: Node::If {
-                        at,
-                        arms,
-                        otherwise: last.tree,
-                    },
-                    number: last.number,
-                    rest: last.rest,
-                });
+                return Ok(if_block(at, arms, last));
             }
             Closing::End => {
-                return Ok(Block {
-                    node: Node::If {
-                        at,
-                        arms,
-                        otherwise: Items::new(alloc),
-                    },
+                let last = Body {
+                    tree: Items::new(alloc),
                     number: next,
                     rest,
-                });
+                };
+                return Ok(if_block(at, arms, last));
             }
         }
     }
