@@ -4,5 +4,5 @@ pub mod Partials
 pub mod Marks
 pub mod Tags
 pub mod Trees
+pub mod Grammar
 pub mod Parts
-pub mod FirstForm

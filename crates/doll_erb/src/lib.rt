@@ -4,7 +4,6 @@
 mod key;
 mod mark;
 pub mod node;
-pub mod parse;
 pub mod partial;
 pub mod piece;
 mod render;
@@ -13,9 +12,9 @@ mod tag;
 pub mod template;
 
 pub use node::{Arm, Arms, ErbFault, Key, KeyPart, Local, Locals, Node, Tree};
-pub use parse::parse_template;
 pub use partial::is_partial;
 pub use piece::{Span, Tag, TagKind, Tags, cut};
+pub use template::parse_template;
 
 #[cfg(test)]
 mod tests;

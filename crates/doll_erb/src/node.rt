@@ -107,8 +107,6 @@ pub enum ErbFault {
     BadExpr { at: u32, fault: ExprFault },
     /// The 65th block open at once.
     TooDeep { at: u32 },
-    /// A tag that isn't read yet: the first that is more than a step of a variable, written.
-    NotBuilt { at: u32 },
     /// No memory was found.
     Memory,
 }

@@ -202,7 +202,7 @@ fn text_piece(at: u32, written: u32, passed: u32) -> Tag
 }
 
 /// The piece at the front of the bytes that are left of a template from the place `at` on.
-pub fn piece_at(at: u32, bytes: &[u8]) -> Result<Tag, ErbFault>
+fn piece_at(at: u32, bytes: &[u8]) -> Result<Tag, ErbFault>
     requires fits { at + length bytes.now < 2 ^ 30 }
     requires some { 0 < length bytes.now }
     ensures value { result ≡ piece_at at bytes.now }

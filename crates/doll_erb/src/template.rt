@@ -59,7 +59,7 @@ enum Found<'a> {
 /// Reads a template into its tree. The faults of the cut come first; of the others the first in the text, and at last
 /// the innermost block that isn't closed.
 #[tactic(auto, unfolding(crate::specs::Trees::tree_of, crate::specs::Trees::whole))]
-pub fn read_template(alloc: Global, text: &str) -> Result<Tree, ErbFault>
+pub fn parse_template(alloc: Global, text: &str) -> Result<Tree, ErbFault>
     requires { length text.now ≤ 262144 }
     ensures { Gives ErbFault.Memory (spec.tree_of text.now) result }
 {

@@ -1,5 +1,4 @@
 use super::*;
-use crate::template::read_template;
 use std::alloc::Global;
 use std::test::*;
 
@@ -49,7 +48,7 @@ fn answer(alloc: Global, text: &str) -> Result<Vec<u8>, Fail> {
         return Err(Fail::from("a row is short"));
     }
     let mut out = Vec::new(alloc);
-    match read_template(alloc, text) {
+    match parse_template(alloc, text) {
         Ok(tree) => {
             for node in tree.as_slice() {
                 show(alloc, node, &mut out)?;

@@ -1,6 +1,6 @@
 use Rattle.std.proofs.Common.{◌≡◌, arith, length, rules}
 use Rattle.doll_erb.proofs.Cuts.{tiles_count}
-use Rattle.doll_erb.proofs.template.read_template.Goals as goal
+use Rattle.doll_erb.proofs.template.parse_template.Goals as goal
 
 -- a template has no more pieces than bytes
 pub read_part-requires-clause-numbers : goal.read_part-requires-clause-numbers
