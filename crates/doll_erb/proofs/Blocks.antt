@@ -44,22 +44,22 @@ front_len_nil : (text : List ℕ) → front_len text [] ≡ 0
 unfolding front_len
 front_len_nil text = refl
 
-front_text_yes : (text : List ℕ) (piece : Tag) (pieces : List Tag) → is_plain text piece ≡ true → front_text text (piece ∷ pieces) ≡ text_of text piece ++ front_text text pieces
+pub front_text_yes : (text : List ℕ) (piece : Tag) (pieces : List Tag) → is_plain text piece ≡ true → front_text text (piece ∷ pieces) ≡ text_of text piece ++ front_text text pieces
 unfolding front_text
 front_text_yes text piece pieces plain = ap (λ (n : ℕ). flat_map (text_of text) (take n (piece ∷ pieces))) (front_len_yes text piece pieces plain)
 
-front_text_no : (text : List ℕ) (piece : Tag) (pieces : List Tag) → is_plain text piece ≡ false → front_text text (piece ∷ pieces) ≡ []
+pub front_text_no : (text : List ℕ) (piece : Tag) (pieces : List Tag) → is_plain text piece ≡ false → front_text text (piece ∷ pieces) ≡ []
 unfolding front_text
 front_text_no text piece pieces other = ap (λ (n : ℕ). flat_map (text_of text) (take n (piece ∷ pieces))) (front_len_no text piece pieces other)
 
-front_text_nil : (text : List ℕ) → front_text text [] ≡ []
+pub front_text_nil : (text : List ℕ) → front_text text [] ≡ []
 unfolding front_text
 front_text_nil text = ap (λ (n : ℕ). flat_map (text_of text) (take n [])) (front_len_nil text)
 
-front_rest_yes : (text : List ℕ) (piece : Tag) (pieces : List Tag) → is_plain text piece ≡ true → drop (front_len text (piece ∷ pieces)) (piece ∷ pieces) ≡ drop (front_len text pieces) pieces
+pub front_rest_yes : (text : List ℕ) (piece : Tag) (pieces : List Tag) → is_plain text piece ≡ true → drop (front_len text (piece ∷ pieces)) (piece ∷ pieces) ≡ drop (front_len text pieces) pieces
 front_rest_yes text piece pieces plain = ap (λ (n : ℕ). drop n (piece ∷ pieces)) (front_len_yes text piece pieces plain)
 
-front_rest_no : (text : List ℕ) (piece : Tag) (pieces : List Tag) → is_plain text piece ≡ false → drop (front_len text (piece ∷ pieces)) (piece ∷ pieces) ≡ piece ∷ pieces
+pub front_rest_no : (text : List ℕ) (piece : Tag) (pieces : List Tag) → is_plain text piece ≡ false → drop (front_len text (piece ∷ pieces)) (piece ∷ pieces) ≡ piece ∷ pieces
 front_rest_no text piece pieces other = ap (λ (n : ℕ). drop n (piece ∷ pieces)) (front_len_no text piece pieces other)
 
 no_pieces : List Tag
@@ -103,7 +103,7 @@ unfolding no_pieces
 rest_ends text [] all none so_far = sym (front_rest_nil text) ∙ so_far
 rest_ends text (piece ∷ pieces) all none so_far = absurd (omega arith)
 
-front_within : (text : List ℕ) (pieces : List Tag) → front_len text pieces ≤ length pieces
+pub front_within : (text : List ℕ) (pieces : List Tag) → front_len text pieces ≤ length pieces
 unfolding front_len
 front_within text pieces = prefix_len-le-length (is_plain text) pieces
 
@@ -112,7 +112,7 @@ plain_step : (text : List ℕ) (inward : Inward) (innermost : Open) (number : �
 unfolding content_from
 plain_step text inward innermost number piece pieces plain = rw plain refl
 
-tag_step : (text : List ℕ) (inward : Inward) (innermost : Open) (number : ℕ) (piece : Tag) (pieces : List Tag) → is_plain text piece ≡ false
+pub tag_step : (text : List ℕ) (inward : Inward) (innermost : Open) (number : ℕ) (piece : Tag) (pieces : List Tag) → is_plain text piece ≡ false
     → content_from text inward innermost 0 number (piece ∷ pieces) ≡ from_tag text inward innermost piece number pieces
 unfolding content_from
 tag_step text inward innermost number piece pieces other = rw other refl

@@ -2,3 +2,5 @@ pub mod Places
 pub mod Cuts
 pub mod Blocks
 pub mod BlockParts
+pub mod GrammarSteps
+pub mod GrammarOnly
