@@ -3,13 +3,11 @@ use Rattle.std.proofs.lemmas.List.{append-nil, length-drop}
 use Rattle.std.proofs.lemmas.Bool.{cases_Bool}
 use Rattle.std.proofs.lemmas.List.Sums.{prefix_len-le-length}
 use Rattle.std.specs.List.{flat_map}
-use Rattle.std.proofs.Common.{◌≡◌, ◌≤◌, ◌<◌, ℕ, zero, suc, ◌+◌, ◌-◌, Bool, true, false, List, [], ◌∷◌, ◌++◌, length, take, drop, Option, None, Some, Result, Ok, Err, refl, ap, sym, ◌∙◌, inl, inr, arith, append_assoc}
-use Rattle.doll_expr.specs.declared.expr.Expr.{Expr}
+use Rattle.std.proofs.Common.{◌≡◌, ◌≤◌, ℕ, zero, suc, ◌+◌, ◌-◌, true, false, List, [], ◌∷◌, ◌++◌, length, take, drop, Ok, Err, refl, ap, sym, ◌∙◌, inl, inr, arith, append_assoc}
 use Rattle.doll_erb.specs.declared.node.Node.{Node}
-use Rattle.doll_erb.specs.declared.node.Arm.{Arm}
 use Rattle.doll_erb.specs.declared.node.ErbFault.{ErbFault}
 use Rattle.doll_erb.specs.declared.piece.Tag.{Tag}
-use Rattle.doll_erb.specs.Trees.{Content, Open, Read, Inward, and_then, before, with_nodes, text_nodes, front_text, front_len, text_of, is_plain, role_in, by_role, behind, at_text_end, content_from}
+use Rattle.doll_erb.specs.Trees.{Content, Open, Read, Inward, and_then, before, text_nodes, front_text, front_len, text_of, is_plain, behind, at_text_end, content_from}
 use Rattle.doll_erb.specs.Parts.{IsRest, from_tag}
 
 -- ---- nodes before a content
@@ -32,15 +30,15 @@ content_dropped text inward innermost zero number pieces within = refl
 content_dropped text inward innermost (suc passed) number [] within = absurd (omega arith)
 content_dropped text inward innermost (suc passed) number (piece ∷ pieces) within = content_dropped text inward innermost passed number pieces (omega arith)
 
-front_len_yes : (text : List ℕ) (piece : Tag) (pieces : List Tag) → is_plain text piece ≡ true → front_len text (piece ∷ pieces) ≡ suc (front_len text pieces)
+pub front_len_yes : (text : List ℕ) (piece : Tag) (pieces : List Tag) → is_plain text piece ≡ true → front_len text (piece ∷ pieces) ≡ suc (front_len text pieces)
 unfolding front_len
 front_len_yes text piece pieces plain = rw plain (omega arith)
 
-front_len_no : (text : List ℕ) (piece : Tag) (pieces : List Tag) → is_plain text piece ≡ false → front_len text (piece ∷ pieces) ≡ 0
+pub front_len_no : (text : List ℕ) (piece : Tag) (pieces : List Tag) → is_plain text piece ≡ false → front_len text (piece ∷ pieces) ≡ 0
 unfolding front_len
 front_len_no text piece pieces other = rw other refl
 
-front_len_nil : (text : List ℕ) → front_len text [] ≡ 0
+pub front_len_nil : (text : List ℕ) → front_len text [] ≡ 0
 unfolding front_len
 front_len_nil text = refl
 
@@ -158,7 +156,7 @@ at_tag text inward innermost number tree nodes bytes pieces ahead piece more all
     ∙ ap (λ (t : List ℕ). before (tree ++ text_nodes t) (from_tag text inward innermost piece number more)) (sym read)
     ∙ ap (λ (ns : List Node). before ns (from_tag text inward innermost piece number more)) (sym made)
 
-no_more : (text : List ℕ) (inward : Inward) (innermost : Open) (number : ℕ) (pieces : List Tag) → length pieces ≡ 0 → content_from text inward innermost 0 number pieces ≡ at_text_end innermost number
+pub no_more : (text : List ℕ) (inward : Inward) (innermost : Open) (number : ℕ) (pieces : List Tag) → length pieces ≡ 0 → content_from text inward innermost 0 number pieces ≡ at_text_end innermost number
 unfolding content_from
 no_more text inward innermost number [] none = refl
 no_more text inward innermost number (piece ∷ pieces) none = absurd (omega arith)

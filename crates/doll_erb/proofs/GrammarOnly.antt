@@ -1,20 +1,18 @@
 -- Each template of the grammar of blocks is read, with its tree.
 use Rattle.std.proofs.lemmas.List.{append-nil}
 use Rattle.std.specs.List.{flat_map}
-use Rattle.std.proofs.Common.{◌≡◌, ℕ, zero, suc, ◌+◌, List, [], ◌∷◌, ◌++◌, Result, Ok, Err, refl, ap, sym, ◌∙◌, append_assoc}
+use Rattle.std.proofs.Common.{◌≡◌, ℕ, suc, ◌+◌, List, [], ◌∷◌, ◌++◌, Result, Ok, refl, ap, sym, ◌∙◌, append_assoc}
 use Rattle.doll_expr.specs.declared.expr.Expr.{Expr}
 use Rattle.doll_erb.specs.declared.node.Node.{Node, roll-Node}
 use Rattle.doll_erb.specs.declared.node.Node.TheOpen.{Node-F}
 use Rattle.doll_erb.specs.declared.node.Arm.{Arm}
 use Rattle.doll_erb.specs.declared.node.ErbFault.{ErbFault}
-use Rattle.doll_erb.specs.declared.node.KeyPart.{KeyPart}
 use Rattle.doll_erb.specs.declared.role.Role.TheVariants as role
 use Rattle.doll_erb.specs.declared.role.Opening.{Opening}
 use Rattle.doll_erb.specs.declared.role.Opening.TheVariants as opening
 use Rattle.doll_erb.specs.declared.role.Closing.{Closing}
 use Rattle.doll_erb.specs.declared.role.Closing.TheVariants as closing
 use Rattle.doll_erb.specs.declared.piece.Tag.{Tag}
-use Rattle.doll_erb.specs.Cuts.{cut_of}
 use Rattle.doll_erb.specs.Trees.{Content, Open, Read, and_then, before, with_nodes, arm, ended, from_arm, from_last, text_of, text_nodes, opened_by, number_in, node_of, block_of, content_from, whole, tree_by, tree_of}
 use Rattle.doll_erb.specs.Grammar.{Does, IsOpening, IsClosing, ArePlain, BeginsWithTag, Made, Makes, nothing, texts, leaf, each, cache, if_arms, last_arm, else_part, elsif_arm, IsTemplate, OneTree}
 use Rattle.doll_erb.proofs.Blocks.{before_nil, before_before}

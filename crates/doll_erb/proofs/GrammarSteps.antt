@@ -1,12 +1,11 @@
 -- What the reading of blocks does at a piece, by what the piece is in the grammar.
 use Rattle.std.proofs.lemmas.Bool.{cases_Bool}
-use Rattle.std.proofs.lemmas.List.{append-nil, length-append}
+use Rattle.std.proofs.lemmas.List.{length-append}
 use Rattle.std.proofs.lemmas.List.Elements.{All-head, All-tail}
 use Rattle.std.proofs.Math.Seq.{drop-append_seam}
 use Rattle.std.specs.List.{flat_map}
 use Rattle.std.specs.Prelude.{is_some}
-use Rattle.std.proofs.Common.{◌≡◌, ◌≤◌, ℕ, zero, suc, ◌+◌, ◌-◌, Bool, true, false, not, List, [], ◌∷◌, ◌++◌, length, take, drop, Option, None, Some, Result, Ok, Err, refl, ap, sym, ◌∙◌, inl, inr, arith, append_assoc}
-use Rattle.doll_erb.specs.declared.node.Node.{Node}
+use Rattle.std.proofs.Common.{◌≡◌, ℕ, suc, ◌+◌, ◌-◌, Bool, true, false, not, List, [], ◌∷◌, ◌++◌, length, drop, Option, None, Some, Result, Ok, Err, refl, ap, sym, ◌∙◌, inl, inr, arith}
 use Rattle.doll_erb.specs.declared.node.ErbFault.{ErbFault}
 use Rattle.doll_erb.specs.declared.piece.Tag.{Tag}
 use Rattle.doll_erb.specs.declared.piece.TagKind.{TagKind}
@@ -14,11 +13,10 @@ use Rattle.doll_erb.specs.declared.piece.TagKind.TheVariants as tag
 use Rattle.doll_erb.specs.declared.role.Role.{Role}
 use Rattle.doll_erb.specs.declared.role.Role.TheVariants as role
 use Rattle.doll_erb.specs.declared.role.Opening.{Opening}
-use Rattle.doll_erb.specs.declared.role.Closing.{Closing}
 use Rattle.doll_erb.specs.Partials.{dependency_of}
 use Rattle.doll_erb.specs.Tags.{role_of, comment_by}
-use Rattle.doll_erb.specs.Trees.{Content, Open, Read, Inward, and_then, before, text_nodes, front_text, front_len, text_of, is_plain, is_plain_kind, content_of, in_tag, role_in, by_role, behind, at_closing, opened_by, number_in, node_of, block_of, content_from}
-use Rattle.doll_erb.specs.Grammar.{Does, IsOpening, IsClosing, ArePlain, BeginsWithTag}
+use Rattle.doll_erb.specs.Trees.{Content, Open, Inward, and_then, before, text_nodes, front_text, front_len, text_of, is_plain, is_plain_kind, content_of, in_tag, role_in, by_role, behind, opened_by, number_in, node_of, block_of, content_from}
+use Rattle.doll_erb.specs.Grammar.{Does, IsOpening, ArePlain, BeginsWithTag}
 use Rattle.doll_erb.proofs.Blocks.{content_dropped, content_front, front_text_yes, front_text_no, front_text_nil, front_rest_yes, front_rest_no, rest_ends, tag_step}
 
 -- ---- texts do nothing

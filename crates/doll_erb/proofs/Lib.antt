@@ -4,3 +4,5 @@ pub mod Blocks
 pub mod BlockParts
 pub mod GrammarSteps
 pub mod GrammarOnly
+pub mod GrammarFound
+pub mod GrammarClauses

@@ -1,10 +1,11 @@
 //! Reading a template into its tree.
 
-ghost use Rattle.std.specs.Prelude.{◌≡◌, ◌≤◌, ◌<◌, ◌+◌, ◌^◌, ◌++◌, length, drop, IfOk, IfSome, OnOk, MatchResult, Ok, Err};
+ghost use Rattle.std.specs.Prelude.{◌≡◌, ◌≤◌, ◌<◌, ◌+◌, ◌^◌, ◌++◌, List, length, drop, IfOk, IfSome, OnOk, MatchResult, Ok, Err};
 ghost use Rattle.doll_expr.specs.Gives.{Gives};
 ghost use Rattle.doll_erb.specs.declared.node.ErbFault.TheVariants.{Memory};
-ghost use Rattle.doll_erb.specs.declared.node.Node.{roll-Node};
+ghost use Rattle.doll_erb.specs.declared.node.Node.{Node, roll-Node};
 ghost use Rattle.doll_erb.specs.declared.node.Node.TheOpen.{Node-F};
+ghost use Rattle.doll_erb.specs.Grammar.{IsTemplate, OneTree};
 ghost use Rattle.doll_erb.specs.Trees as spec;
 ghost use Rattle.doll_erb.specs.Trees.{Open};
 ghost use Rattle.doll_erb.specs.Parts as parts;
@@ -56,10 +57,27 @@ enum Found<'a> {
     Closes(u32, Closing, &'a [Tag]),
 }
 
-/// Reads a template into its tree. The faults of the cut come first; of the others the first in the text, and at last
-/// the innermost block that isn't closed.
-#[tactic(auto, unfolding(crate::specs::Trees::tree_of, crate::specs::Trees::whole))]
+/// The tree of a template, or its first fault. The faults of the cut come first; of the others the first in the text, and at
+/// last the innermost block that isn't closed.
 pub fn parse_template(alloc: Global, text: &str) -> Result<Tree, ErbFault>
+    requires { length text.now ≤ 262144 }
+    // What is accepted is a template of the grammar of blocks with this tree.
+    ensures found { IfOk result (λ tree. IsTemplate text.now tree) }
+    // Each template of the grammar is accepted with its tree, unless memory runs out.
+    ensures only { (tree : List Node) → IsTemplate text.now tree → Gives ErbFault.Memory (Ok tree) result }
+    // The same as one equation, and with the first fault: what reading from the left gives.
+    ensures exact { Gives ErbFault.Memory (spec.tree_of text.now) result }
+{
+    read_template(alloc, text)
+}
+
+/// No text has two trees.
+pub fn one_tree()
+    ensures { OneTree }
+{}
+
+#[tactic(auto, unfolding(crate::specs::Trees::tree_of, crate::specs::Trees::whole))]
+fn read_template(alloc: Global, text: &str) -> Result<Tree, ErbFault>
     requires { length text.now ≤ 262144 }
     ensures { Gives ErbFault.Memory (spec.tree_of text.now) result }
 {

@@ -1,10 +1,8 @@
-use Rattle.std.proofs.Common.{◌≡◌, arith, length, rules}
-use Rattle.doll_erb.proofs.Cuts.{tiles_count}
+use Rattle.doll_erb.proofs.GrammarClauses.{template_found, template_only}
 use Rattle.doll_erb.proofs.template.parse_template.Goals as goal
 
--- a template has no more pieces than bytes
-pub read_part-requires-clause-numbers : goal.read_part-requires-clause-numbers
-read_part-requires-clause-numbers c =
-    let count = tiles_count 0 (length c.args.text.now) c.in_ok-tags.tags c.in_ok-tags.ensures.tiles in
-    let same : c.as_slice.result.now ≡ c.in_ok-tags.tags = c.as_slice.ensures in
-    rw same (omega (arith, count, c.requires))
+pub returns-clause-found : goal.returns-clause-found
+returns-clause-found c = template_found c.args.text.now c.read_template.result c.read_template.ensures
+
+pub returns-clause-only : goal.returns-clause-only
+returns-clause-only c tree is = template_only c.args.text.now c.read_template.result tree c.read_template.ensures is
