@@ -1,3 +1,4 @@
+pub mod Alone
 pub mod Digits
 pub mod Fitting
 pub mod Growth

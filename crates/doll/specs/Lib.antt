@@ -2,6 +2,8 @@ pub mod Creates
 pub mod FirstForms
 pub mod Pasts
 pub mod Paths
+pub mod Refusals
 pub mod Replies
 pub mod Seen
 pub mod Sites
+pub mod Standing

@@ -5,6 +5,8 @@ use Rattle.doll_schema.specs.declared.value.Val.TheVariants as val
 use Rattle.doll_table.specs.Tables.{row_of}
 use Rattle.doll_plain.specs.Direct.{Env, direct, plain_scene}
 use Rattle.doll.specs.declared.refusal.Refusal.{Refusal}
+use Rattle.doll.specs.declared.refusal.Refusal.TheVariants as refusal
+use Rattle.doll.specs.Refusals.{refusal_line}
 use Rattle.doll.specs.Paths.{requested_id}
 use Rattle.doll.specs.declared.site.Site.{Site}
 use Rattle.doll.specs.Sites.{site_of}
@@ -40,9 +42,14 @@ page_of site id = direct (plain_scene site.schema site.table) site.tree ((site.o
 abbrev pub page_reply : Site → List ℕ → Reply
 page_reply site path = option_map_or (λ id. record { status = 0; text = page_of site id }) (living site (requested_id site.path path)) (unknown path)
 
+-- a bundle that is refused, or of a form that isn't read yet
+abbrev pub refusal_reply : Refusal → Reply
+refusal_reply (refusal.Refused part number what) = record { status = 3; text = line (refusal_line part number what) }
+refusal_reply other = not_built
+
 abbrev pub site_reply : Result Site Refusal → List ℕ → Reply
 site_reply (Ok site) path = page_reply site path
-site_reply (Err why) path = not_built
+site_reply (Err why) path = refusal_reply why
 
 -- a page of a site that is read from the input
 abbrev pub plain_reply : List ℕ → List ℕ → Reply

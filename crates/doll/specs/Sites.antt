@@ -14,7 +14,7 @@ use Rattle.doll_schema.specs.declared.fault.SchemaFault.TheVariants as fault
 use Rattle.doll_schema.specs.declared.model.Model.{Model}
 use Rattle.doll_schema.specs.declared.model.Schema.{Schema}
 use Rattle.doll_erb.specs.declared.node.Node.{Node}
-use Rattle.doll_erb.specs.FirstForm.{tree_of}
+use Rattle.doll_erb.specs.Trees.{tree_of}
 use Rattle.doll.specs.declared.refusal.BundlePart.{BundlePart}
 use Rattle.doll.specs.declared.refusal.BundlePart.TheVariants as part
 use Rattle.doll.specs.declared.refusal.Kind.{Kind}
@@ -26,6 +26,7 @@ use Rattle.doll.specs.declared.site.Site.{Site}
 use Rattle.doll.specs.Paths.{record_path, is_virtual_path}
 use Rattle.doll.specs.FirstForms.{Parts, parts_of}
 use Rattle.doll.specs.Pasts.{table_in}
+use Rattle.doll.specs.Standing.{tree_alone}
 
 -- the JSON value that the bytes are
 abbrev pub json_of : List ℕ → Option Data
@@ -80,13 +81,18 @@ short_source text = if nat_lt 262144 (length text) then Err (Refused part.Views 
 abbrev pub source_in : Data → Result (List ℕ) Refusal
 source_in source = ok_or (as_str source) (Refused part.Views 0 kind.BadForm) >>= short_source
 
-abbrev pub or_not_built : {F : Type 0} → Result (List Node) F → Result (List Node) Refusal
-or_not_built (Ok tree) = Ok tree
-or_not_built (Err why) = Err NotBuilt
+-- a tree that names no partial; others aren't rendered yet
+abbrev pub lone_tree : List Node → Result (List Node) Refusal
+lone_tree tree = if tree_alone tree then Ok tree else Err NotBuilt
+
+-- a text that is no template is refused, whatever its fault
+abbrev pub or_bad_template : {F : Type 0} → Result (List Node) F → Result (List Node) Refusal
+or_bad_template (Ok tree) = Ok tree
+or_bad_template (Err why) = Err (Refused part.Views 0 kind.BadTemplate)
 
 -- the tree of the template
 abbrev pub tree_in : List ℕ → Result (List Node) Refusal
-tree_in text = or_not_built (tree_of text)
+tree_in text = or_bad_template (tree_of text) >>= lone_tree
 
 -- the site of a bundle's parts: schema, route, view, template and commits in turn, or the first refusal
 abbrev pub after_past : Schema → List ℕ → Model → List Node → Past → Result Site Refusal

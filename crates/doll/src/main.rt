@@ -8,6 +8,7 @@ mod path;
 mod refusal;
 mod reply;
 mod site;
+mod standing;
 mod tool;
 
 use doll_base::{DirFolder, StdSink, StdSource, SysClock};

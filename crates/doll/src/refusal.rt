@@ -1,6 +1,7 @@
 //! Why a bundle is refused.
 
 ghost use Rattle.std.specs.Prelude.{◌≡◌};
+ghost use Rattle.doll.specs.Refusals.{part_name, kind_name};
 ghost use Rattle.doll.specs.declared.refusal.Refusal.TheVariants as refusals;
 
 use std::alloc::AllocError;
@@ -26,12 +27,53 @@ pub enum Kind {
     BadInverse,
     BadPath,
     TooLong,
+    BadTemplate,
     UnknownAttribute,
     WrongKind,
     NullRefused,
     IdsEnded,
     TooManyChanges,
     MomentsEnded,
+}
+
+impl BundlePart {
+    /// The name that the program prints.
+    pub fn name(self) -> &'static str
+        ensures { result.now ≡ part_name self }
+    {
+        match self {
+            BundlePart::Json => "json",
+            BundlePart::Schema => "schema",
+            BundlePart::Routes => "routes",
+            BundlePart::Views => "views",
+            BundlePart::Commits => "commits",
+        }
+    }
+}
+
+impl Kind {
+    /// The name that the program prints.
+    pub fn name(self) -> &'static str
+        ensures { result.now ≡ kind_name self }
+    {
+        match self {
+            Kind::BadForm => "BadForm",
+            Kind::TooMany => "TooMany",
+            Kind::UnknownKind => "UnknownKind",
+            Kind::DuplicateName => "DuplicateName",
+            Kind::UnknownModel => "UnknownModel",
+            Kind::BadInverse => "BadInverse",
+            Kind::BadPath => "BadPath",
+            Kind::TooLong => "TooLong",
+            Kind::BadTemplate => "BadTemplate",
+            Kind::UnknownAttribute => "UnknownAttribute",
+            Kind::WrongKind => "WrongKind",
+            Kind::NullRefused => "NullRefused",
+            Kind::IdsEnded => "IdsEnded",
+            Kind::TooManyChanges => "TooManyChanges",
+            Kind::MomentsEnded => "MomentsEnded",
+        }
+    }
 }
 
 /// The answer to a bundle that isn't served.

@@ -4,15 +4,17 @@ ghost use Rattle.std.specs.Prelude.{◌≡◌, ◌≤◌, map, codes, length, st
 ghost use Rattle.doll_table.specs.Fits.{Fits};
 ghost use Rattle.doll_table.specs.Tables.{row_of};
 ghost use Rattle.doll.specs.Sites.{site_of};
+ghost use Rattle.doll.specs.Refusals.{refusal_line};
 ghost use Rattle.doll.specs.Replies.{usage, too_long, not_built, unknown, line, living, page_of, page_reply, site_reply, plain_reply, plain_path, IsAnswer};
 
 use crate::path::requested_id;
-use crate::refusal::Refusal;
+use crate::refusal::{BundlePart, Kind, Refusal};
 use crate::site::{Site, site_of};
 use doll_expr::{Bytes, Copied, Items, Memory, Name};
 use doll_plain::page;
 use doll_schema::{Val, Vars};
 use doll_table::Looking;
+use itoa::Buffer;
 use std::alloc::Global;
 
 /// The most bytes of an input.
@@ -55,6 +57,25 @@ pub fn too_long(alloc: Global) -> Result<Reply, Memory>
     ensures status { IfOk result (λ reply. IsAnswer reply.status) }
 {
     fixed(alloc, 12, "too long 16777216")
+}
+
+/// The line of a bundle that is refused.
+fn refused(alloc: Global, part: BundlePart, number: u64, kind: Kind) -> Result<Reply, Memory>
+    ensures value { IfOk result (λ reply. reply ≡ record { status = 3; text = line (refusal_line part number kind) }) }
+    ensures status { IfOk result (λ reply. IsAnswer reply.status) }
+{
+    let mut digits = Buffer::new();
+    let mut bytes = Vec::from_slice(alloc, b"bundle ")?;
+    bytes.extend_from_slice(part.name().as_bytes())?;
+    bytes.push(b' ')?;
+    bytes.extend_from_slice(digits.format(number).as_bytes())?;
+    bytes.extend_from_slice(b": ")?;
+    bytes.extend_from_slice(kind.name().as_bytes())?;
+    bytes.push(b'\n')?;
+    Ok(Reply {
+        status: 3,
+        text: Bytes::from_vec(bytes),
+    })
 }
 
 fn not_built(alloc: Global) -> Result<Reply, Memory>
@@ -124,8 +145,9 @@ pub fn plain_reply(alloc: Global, path: &[u8], input: &[u8]) -> Result<Reply, Me
 {
     match site_of(alloc, input) {
         Ok(site) => page_reply(alloc, &site, path),
+        Err(Refusal::Refused { part, number, kind }) => refused(alloc, part, number, kind),
+        Err(Refusal::NotBuilt) => not_built(alloc),
         Err(Refusal::Memory) => Err(Memory),
-        Err(_) => not_built(alloc),
     }
 }
 

@@ -14,6 +14,7 @@ use crate::first_form::{Parts, parts_of};
 use crate::past::{Past, table_in};
 use crate::path::{is_virtual_path, record_path};
 use crate::refusal::{BundlePart, Kind, Refusal};
+use crate::standing::tree_alone;
 use doll_erb::{ErbFault, Tree, parse_template};
 use doll_expr::{Memory, Name};
 use doll_schema::{Model, Schema, SchemaFault};
@@ -118,37 +119,44 @@ fn route_model<'a>(parts: &Parts<'_>, schema: &'a Schema) -> Result<&'a Model, R
     }
 }
 
+fn view_refusal(kind: Kind) -> Refusal
+    ensures { result ≡ Refusal.Refused BundlePart.Views 0 kind }
+{
+    Refusal::Refused {
+        part: BundlePart::Views,
+        number: 0,
+        kind,
+    }
+}
+
 /// The source of the view, of at most 262,144 bytes.
 fn source_in(source: &Value) -> Result<&str, Refusal>
     ensures exact { MatchResult result (λ text. source_in (view source.now) ≡ Ok text.now) (λ why. source_in (view source.now) ≡ Err why) }
     ensures short { IfOk result (λ text. length text.now ≤ 262144) }
 {
     let Some(text) = source.as_str() else {
-        return Err(Refusal::Refused {
-            part: BundlePart::Views,
-            number: 0,
-            kind: Kind::BadForm,
-        });
+        return Err(view_refusal(Kind::BadForm));
     };
     if text.len() > LONGEST_SOURCE {
-        return Err(Refusal::Refused {
-            part: BundlePart::Views,
-            number: 0,
-            kind: Kind::TooLong,
-        });
+        return Err(view_refusal(Kind::TooLong));
     }
     Ok(text)
 }
 
-/// The tree of the template.
+/// The tree of the template, if it names no partial. Other templates aren't rendered yet.
 fn tree_in(alloc: Global, text: &str) -> Result<Tree, Refusal>
     requires { length text.now ≤ 262144 }
     ensures { Gives Refusal.Memory (tree_in text.now) result }
 {
-    match parse_template(alloc, text) {
-        Ok(tree) => Ok(tree),
-        Err(ErbFault::Memory) => Err(Refusal::Memory),
-        Err(_) => Err(Refusal::NotBuilt),
+    let tree = match parse_template(alloc, text) {
+        Ok(tree) => tree,
+        Err(ErbFault::Memory) => return Err(Refusal::Memory),
+        Err(_) => return Err(view_refusal(Kind::BadTemplate)),
+    };
+    if tree_alone(tree.as_slice()) {
+        Ok(tree)
+    } else {
+        Err(Refusal::NotBuilt)
     }
 }
 

@@ -7,11 +7,18 @@ use std::test::Fail;
 const SITE: &str =
     "{\"schema\":{\"models\":[{\"name\":\"product\",\"plural\":\"products\",\"attributes\":[{\"name\":\"name\",\"kind\":\"text\"}]}]},\"routes\":[{\"path\":\"/products/:id\",\"template\":\"products/show\",\"record\":\"product\"}],\"views\":{\"products/show.html.erb\":\"Hello <%= product.name %>\"},\"commits\":[{\"at\":10,\"changes\":[{\"create\":\"product\",\"values\":{\"name\":\"A&B\"}}]}]}";
 
-const BLOCK: &str =
-    "{\"schema\":{\"models\":[{\"name\":\"product\",\"plural\":\"products\",\"attributes\":[{\"name\":\"name\",\"kind\":\"text\"}]}]},\"routes\":[{\"path\":\"/products/:id\",\"template\":\"products/show\",\"record\":\"product\"}],\"views\":{\"products/show.html.erb\":\"<% if true %>\"},\"commits\":[]}";
+/// The site up to the text of its template, and from there on.
+const BEFORE: &str =
+    "{\"schema\":{\"models\":[{\"name\":\"product\",\"plural\":\"products\",\"attributes\":[{\"name\":\"name\",\"kind\":\"text\"}]}]},\"routes\":[{\"path\":\"/products/:id\",\"template\":\"products/show\",\"record\":\"product\"}],\"views\":{\"products/show.html.erb\":\"";
+
+const BEHIND: &str =
+    "\"},\"commits\":[{\"at\":10,\"changes\":[{\"create\":\"product\",\"values\":{\"name\":\"A&B\"}}]}]}";
 
 const FLOAT: &str =
     "{\"schema\":{\"models\":[{\"name\":\"product\",\"plural\":\"products\",\"attributes\":[{\"name\":\"name\",\"kind\":\"float\"}]}]},\"routes\":[{\"path\":\"/products/:id\",\"template\":\"products/show\",\"record\":\"product\"}],\"views\":{\"products/show.html.erb\":\"Hello <%= product.name %>\"},\"commits\":[]}";
+
+const NUMBER: &str =
+    "{\"schema\":{\"models\":[{\"name\":\"product\",\"plural\":\"products\",\"attributes\":[{\"name\":\"name\",\"kind\":\"text\"}]}]},\"routes\":[{\"path\":\"/products/:id\",\"template\":\"products/show\",\"record\":\"product\"}],\"views\":{\"products/show.html.erb\":\"\"},\"commits\":[{\"at\":10,\"changes\":[{\"create\":\"product\",\"values\":{\"name\":\"A\"}}]},{\"at\":11,\"changes\":[{\"create\":\"product\",\"values\":{\"name\":1}}]}]}";
 
 const USAGE: &str =
     "usage: doll plain PATH | lint | digests | replay | workload N | serve BUNDLE ADDRESS [JOURNAL]\n";
@@ -52,13 +59,51 @@ fn answers_of_the_first_path(rt: HostRuntime) -> Result<(), Fail> {
         ("/products/2", SITE, 5, "unknown /products/2\n"),
         ("/products/01", SITE, 5, "unknown /products/01\n"),
         ("/products/1?x=1", SITE, 0, "Hello A&amp;B"),
-        ("/products/1", BLOCK, 4, "not built\n"),
-        ("/products/1", "", 4, "not built\n"),
-        ("/products/1", FLOAT, 4, "not built\n"),
+        ("/products/1", "", 3, "bundle json 0: BadForm\n"),
+        ("/products/1", "{}", 4, "not built\n"),
+        ("/products/1", FLOAT, 3, "bundle schema 0: UnknownKind\n"),
+        ("/products/1", NUMBER, 3, "bundle commits 1: WrongKind\n"),
     ] {
         let (ended, held) = answer(&rt, &["plain", path], bundle, &[], &[])?;
         assert_eq!(rt; ended, status, "at {path}");
         assert_eq!(rt; held.as_slice(), text.as_bytes(), "at {path}");
+    }
+    Ok(())
+}
+
+/// The template as it stands in JSON, the status, and the page or the line.
+const TEMPLATES: [(&str, u8, &str); 9] = [
+    ("<%= 2 + 3 * -4 %>", 0, "-10"),
+    ("<%== product.name %>", 0, "A&B"),
+    ("<%= \\\"a\\\" < \\\"b\\\" && !nil %>", 0, "true"),
+    (
+        "<% if product.name == \\\"A&B\\\" %>y<% else %>n<% end %>",
+        0,
+        "y",
+    ),
+    ("a<%%= b -%>|<% if true -%>\\nX<% end %>", 0, "a<%= b -%>|X"),
+    (
+        "[<%= 9223372036854775807 + 1 %>][<%= nil < 3 %>]",
+        0,
+        "[][false]",
+    ),
+    ("<%- 1 %>", 3, "bundle views 0: BadTemplate\n"),
+    ("<% if true %>", 3, "bundle views 0: BadTemplate\n"),
+    (
+        "<% if nil %><%= render \\\"a\\\" %><% end %>",
+        4,
+        "not built\n",
+    ),
+];
+
+#[test]
+fn pages_of_templates(rt: HostRuntime) -> Result<(), Fail> {
+    let alloc = rt.alloc();
+    for (template, status, text) in &TEMPLATES {
+        let bundle = format!(in alloc; "{BEFORE}{template}{BEHIND}")?;
+        let (ended, held) = answer(&rt, &["plain", "/products/1"], bundle.as_str(), &[], &[])?;
+        assert_eq!(rt; ended, *status, "at {template}");
+        assert_eq!(rt; held.as_slice(), text.as_bytes(), "at {template}");
     }
     Ok(())
 }

@@ -1,10 +1,10 @@
 //! The program over its words, a folder, a source, a sink and a clock.
 
-ghost use Rattle.std.specs.Prelude.{◌≡◌, map, string_bytes, IfOk, IsErrOf};
+ghost use Rattle.std.specs.Prelude.{◌≡◌, map, string_bytes, None, IfOk, IsErrOf};
 ghost use Rattle.doll_base.specs.Faults.{Rose, KeepsCount};
 ghost use Rattle.doll_base.specs.Streams.{Appended, AppendedPart};
 ghost use Rattle.doll.specs.declared.tool.Unanswered.TheVariants as unanswered;
-ghost use Rattle.doll.specs.Replies.{IsReply, Answers, AnswersPart, IsAnswer, IsSilent};
+ghost use Rattle.doll.specs.Replies.{IsReply, Answers, AnswersPart, IsAnswer, IsSilent, plain_path};
 
 use crate::reply::{LONGEST_INPUT, Reply, plain_path, plain_reply, too_long, usage};
 use doll_base::{Clock, Folder, InputFault, Sink, Source, read_all, write_whole};
@@ -43,6 +43,7 @@ fn reply_to<S: Source>(alloc: Global, words: &[String], source: &mut S) -> Resul
     ensures reply { IfOk result (λ reply. IsReply (map string_bytes words.now) (S.left source.old) reply) }
     ensures status { IfOk result (λ reply. IsAnswer reply.status) }
     ensures failed { IsErrOf result Unanswered.Failed → Rose (S.faults source.old) (S.faults source.new) }
+    ensures unread { plain_path (map string_bytes words.now) ≡ None → (S.left source.new ≡ S.left source.old) × (S.faults source.new ≡ S.faults source.old) }
     ensures count { KeepsCount (S.faults source.old) (S.faults source.new) }
 {
     let Some(path) = plain_path(words) else {
@@ -70,6 +71,8 @@ pub fn run_tool<F: Folder, S: Source, K: Sink, C: Clock>(
     // It doesn't give up by itself.
     ensures read_failed { result ≡ READ_FAILED → Rose (S.faults source.old) (S.faults source.new) }
     ensures write_failed { result ≡ WRITE_FAILED → Rose (K.faults sink.old) (K.faults sink.new) × AnswersPart (map string_bytes words.now) (S.left source.old) (K.held sink.old) (K.held sink.new) }
+    // Words that are none of the forms are told before anything is read.
+    ensures unread { plain_path (map string_bytes words.now) ≡ None → (S.left source.new ≡ S.left source.old) × (S.faults source.new ≡ S.faults source.old) }
     // Without an answer nothing is written.
     ensures silent { IsSilent result → K.held sink.new ≡ K.held sink.old }
     // Neither the folder nor the clock is asked yet.
