@@ -75,10 +75,15 @@ pub fits_grown : (schema own : Schema) (first : Extent) (others : List Extent) (
 fits_grown schema own first others row model fits one is row_fits = record {
   same = fits.same;
   extents = fits.extents;
+  nexts = nexts;
   ids = ids;
   rows = rows;
 }
   where
+    nexts : (at : ℕ) → at < length (table_of own (grown first row) others).extents → 1 ≤ next_of (table_of own (grown first row) others) at
+    nexts zero within = omega arith
+    nexts (suc at) within = fits.nexts (suc at) within
+
     ids : (at id : ℕ) → IsSome (row_of (table_of own (grown first row) others) at id) → (1 ≤ id) × (id < next_of (table_of own (grown first row) others) at)
     ids zero id some = ids_on first row id (eq_by_cmp nat_cmp id first.next) refl one (fits.ids 0 id) (rw (grown-get first row id) at some)
     ids (suc at) id some = fits.ids (suc at) id some

@@ -130,6 +130,12 @@ not_some : {A : Type 0} {X : Type 0} (found : Option X) → found ≡ None → I
 not_some None none some = absurd (search rules)
 not_some (Some x) none some = absurd (cc none)
 
+-- the first id that a model gives is 1
+fresh_next : (models : List Model) (at : ℕ) → at < length (map fresh models) → 1 ≤ option_map_or (λ (e : Extent). e.next) (slice_get (map fresh models) at) 0
+fresh_next [] at within = absurd (omega arith)
+fresh_next (m ∷ ms) zero within = omega arith
+fresh_next (m ∷ ms) (suc at) within = fresh_next ms at (omega arith)
+
 -- the empty table is sound
 sound_empty : (own : List Model) (model : Model) → slice_get own 0 ≡ Some model → IsSound (record { models = own }) (empty_table (record { models = own }))
 sound_empty [] model is = absurd (cc is)
@@ -137,6 +143,7 @@ sound_empty (m ∷ ms) model is = record {
   fits = record {
     same = refl;
     extents = length-map (m ∷ ms) fresh;
+    nexts = λ at within. fresh_next (m ∷ ms) at within;
     ids = λ at id some. not_some (row_of (empty_table (record { models = m ∷ ms })) at id) (empty_rows (m ∷ ms) at id) some;
     rows = λ at id one row place found. absurd (cc (empty_rows (m ∷ ms) at id, found));
   };

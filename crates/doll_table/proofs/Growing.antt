@@ -150,6 +150,7 @@ pub put_fits : (schema : Schema) (table : TableMap) (model id : ℕ) (m : Model)
 put_fits schema table model id m row fits at low high suits = record {
   same = fits.same;
   extents = length_stays table model (λ (x : Extent). record x { rows = finite.insert x.rows id row }) ∙ fits.extents;
+  nexts = λ n l. subst (λ x. 1 ≤ x) (sym (next_of_put table model id row n)) (fits.nexts n (subst (λ x. n < x) (length_stays table model (λ (x : Extent). record x { rows = finite.insert x.rows id row })) l));
   ids = λ n i lives. ids_at n i (eqb n model && eqb i id) refl (sym (ap is_some (row_of_put table model id row within n i)) ∙ lives);
   rows = λ n i o r here is. row_at n i o r (eqb n model && eqb i id) refl here (sym (row_of_put table model id row within n i) ∙ is);
 }
@@ -185,10 +186,17 @@ pub next_fits : (schema : Schema) (table : TableMap) (model n : ℕ) → Fits sc
 next_fits schema table model n fits l up = record {
   same = fits.same;
   extents = length_stays table model (λ (x : Extent). record x { next = n }) ∙ fits.extents;
+  nexts = λ m l. next_at m (eqb m model) refl (subst (λ x. m < x) (length_stays table model (λ (x : Extent). record x { next = n })) l);
   ids = λ m i lives. ids_at m i (fits.ids m i (sym (ap is_some (row_of_next table model n m i)) ∙ lives)) (eqb m model) refl;
   rows = λ m i o r here is. fits_more table (put_next table model n) o r (λ b j lives. ap is_some (row_of_next table model n b j) ∙ lives) (fits.rows m i o r here (sym (row_of_next table model n m i) ∙ is));
 }
   where
+    next_at : (m : ℕ) (b : Bool) → eqb m model ≡ b → m < length table.extents → 1 ≤ next_of (put_next table model n) m
+    next_at m true t within =
+        let same : m ≡ model = equal_from m model t in
+        subst (λ x. 1 ≤ x) (sym (next_of_next table model n (omega (arith, fits.extents)) m ∙ ap (λ b. cond b n (next_of table m)) t)) (omega (arith, up, fits.nexts model (omega (arith, fits.extents))))
+    next_at m false t within = subst (λ x. 1 ≤ x) (sym (next_of_next table model n (omega (arith, fits.extents)) m ∙ ap (λ b. cond b n (next_of table m)) t)) (fits.nexts m within)
+
     ids_at : (m i : ℕ) → (1 ≤ i) × (i < next_of table m) → (b : Bool) → eqb m model ≡ b → (1 ≤ i) × (i < next_of (put_next table model n) m)
     ids_at m i h true t =
         let mm : m ≡ model = equal_from m model t in

@@ -28,9 +28,10 @@ pub record RowFits (table : TableMap) (model : Model) (row : Row) : Type 0 where
   pub parents : (at : ℕ) (b : BelongsTo) (id : ℕ) → slice_get model.belongs_to at ≡ Some b → parent_of row at ≡ Some id → IsSome (row_of table b.model id)
 
 -- A table fits a schema: it has that schema and an extent for each model, ids are at least 1 and below the next id,
--- and each row fits its model.
+-- which is itself at least 1, and each row fits its model.
 pub record Fits (schema : Schema) (table : TableMap) : Type 0 where
   pub same : table.schema ≡ schema
   pub extents : length table.extents ≡ length schema.models
+  pub nexts : (model : ℕ) → model < length table.extents → 1 ≤ next_of table model
   pub ids : (model id : ℕ) → IsSome (row_of table model id) → (1 ≤ id) × (id < next_of table model)
   pub rows : (model id : ℕ) (m : Model) (row : Row) → slice_get schema.models model ≡ Some m → row_of table model id ≡ Some row → RowFits table m row

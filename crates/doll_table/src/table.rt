@@ -95,7 +95,7 @@ impl Table {
     }
 
     /// The ids of a model's rows whose key at a place names a parent, ascending.
-    fn named(&self, model: u16, place: u16, parent: u32) -> &[u32]
+    pub fn named(&self, model: u16, place: u16, parent: u32) -> &[u32]
         ensures { result.now ≡ ids_under self.now model place parent }
     {
         match self.models.get(model as usize) {

@@ -1,0 +1,17 @@
+pub mod Alike
+pub mod Closures
+pub mod Courses
+pub mod Filled
+pub mod Finished
+pub mod Gone
+pub mod Keys
+pub mod Making
+pub mod Members
+pub mod Moments
+pub mod Ordered
+pub mod Pairs
+pub mod Pushes
+pub mod Reached
+pub mod Removing
+pub mod Stamps
+pub mod Walks

@@ -1,0 +1,10 @@
+use Rattle.std.specs.List.{list_any, zip}
+use Rattle.std.proofs.lemmas.Slice.Zip.{either_empty_from_Zip}
+use Rattle.doll_commit.specs.Rows.{lacks_parent}
+use Rattle.doll_commit.proofs.Pairs.{none_passed}
+use Rattle.doll_commit.proofs.rows.lacks_parent.Goals as goal
+
+pub returns : goal.returns
+returns c =
+    let at = c.loop-association.association-iterator in
+    none_passed lacks_parent (list_any lacks_parent (zip c.args.associations.now c.args.keys.now)) at.a.rest.now at.b.rest.now (either_empty_from_Zip at c.next.new.self c.next.result c.in-None.is c.next.ensures.steps) c.loop-association.invariant

@@ -1,0 +1,75 @@
+-- One change: the table after it and the records that it changed, or why it is refused (this project's own).
+use Rattle.std.specs.Prelude.{ℕ, ◌+◌, ◌==◌, List, [], ◌∷◌, bytes_eq, position, slice_get, Option, None, Some, Result, Ok, Err, if◌then◌else◌}
+use Rattle.std.specs.Option.{option_map_or, ok_or}
+use Rattle.doll_schema.specs.Steps.{◌>>=◌}
+use Rattle.doll_schema.specs.declared.model.Model.{Model}
+use Rattle.doll_schema.specs.declared.model.Schema.{Schema}
+use Rattle.doll_schema.specs.declared.value.Row.{Row}
+use Rattle.doll_journal.specs.declared.change.Change.{Change}
+use Rattle.doll_journal.specs.declared.change.Change.TheVariants as change
+use Rattle.doll_table.specs.Tables.{TableMap, row_of, next_of, put_row, put_next}
+use Rattle.doll_commit.specs.declared.fault.Why.{Why}
+use Rattle.doll_commit.specs.declared.fault.Why.TheVariants as why
+use Rattle.doll_commit.specs.Records.{Ref}
+use Rattle.doll_commit.specs.Given.{Given, given_fault}
+use Rattle.doll_commit.specs.Rows.{blank_row, row_after, lacks}
+use Rattle.doll_commit.specs.Removed.{removed_with, is_restricted, without_rows}
+
+-- what a change made: the table after it, the records that it created, updated, touched or removed, and the id of the
+-- record that it created
+pub record Made : Type 0 where
+  pub table : TableMap
+  pub changed : List Ref
+  pub created : Option ℕ
+
+-- the number of the model that has a name
+abbrev pub model_named : Schema → List ℕ → Result ℕ Why
+model_named schema name = ok_or (position (λ (m : Model). bytes_eq m.name name) schema.models) why.UnknownModel
+
+-- a living row
+abbrev pub living : TableMap → Ref → Result Row Why
+living table ref = ok_or (row_of table ref.0 ref.1) why.MissingRow
+
+-- a row with the values given, if these are values for it and leave nothing nil that may not be
+abbrev pub filled : TableMap → Model → Given → Row → Result Row Why
+filled table model given old = option_map_or Err (given_fault table model given) (if lacks model (row_after model given old) then Err why.NullRefused else Ok (row_after model given old))
+
+abbrev pub filled_at : TableMap → Schema → ℕ → Given → Row → Result Row Why
+filled_at table schema m given old = ok_or (slice_get schema.models m) why.UnknownModel >>= λ model. filled table model given old
+
+-- the rows of a creation and of an update
+abbrev pub created_row : TableMap → Schema → Given → ℕ → Result Row Why
+created_row table schema given m = ok_or (slice_get schema.models m) why.UnknownModel >>= λ model. filled table model given (blank_row model)
+
+abbrev pub updated_row : TableMap → Schema → Given → Ref → Result Row Why
+updated_row table schema given ref = living table ref >>= λ old. filled_at table schema ref.0 given old
+
+-- a creation takes the next id, of which 4,294,967,295 is never given
+abbrev pub create : TableMap → Schema → Given → ℕ → Result Made Why
+create table schema given m =
+    let id = next_of table m in
+    if id == 4294967295 then Err why.IdsEnded
+    else ok_or (slice_get schema.models m) why.UnknownModel >>= λ model. filled table model given (blank_row model) >>= λ row.
+    Ok (record { table = put_next (put_row table m id row) m (id + 1); changed = (m, id) ∷ []; created = Some id })
+
+-- an update sets the values given and leaves the others
+abbrev pub update : TableMap → Schema → Given → Ref → Result Made Why
+update table schema given ref = living table ref >>= λ old. filled_at table schema ref.0 given old >>= λ row.
+    Ok (record { table = put_row table ref.0 ref.1 row; changed = ref ∷ []; created = None })
+
+-- a destroy removes the record and all that go with it
+abbrev pub destroy_all : TableMap → Schema → List Ref → Result Made Why
+destroy_all table schema removed = if is_restricted table schema removed then Err why.Restricted else Ok (record { table = without_rows table removed; changed = removed; created = None })
+
+abbrev pub destroy : TableMap → Schema → Ref → Result Made Why
+destroy table schema ref = living table ref >>= λ old. destroy_all table schema (removed_with table schema ref)
+
+-- a touch changes nothing by itself
+abbrev pub touch : TableMap → Ref → Result Made Why
+touch table ref = living table ref >>= λ old. Ok (record { table = table; changed = ref ∷ []; created = None })
+
+abbrev pub made : TableMap → Schema → Change → Result Made Why
+made table schema (change.Create name given) = model_named schema name >>= create table schema given
+made table schema (change.Update name id given) = model_named schema name >>= λ m. update table schema given (m, id)
+made table schema (change.Destroy name id) = model_named schema name >>= λ m. destroy table schema (m, id)
+made table schema (change.Touch name id) = model_named schema name >>= λ m. touch table (m, id)

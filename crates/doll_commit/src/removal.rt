@@ -1,0 +1,164 @@
+//! What goes with a record that is destroyed, and when it may not go.
+
+ghost use Rattle.std.specs.Prelude.{◌≡◌, ◌==◌, ◌<◌, not, true, List, ℕ, [], map, length, is_some, IfOk, OnOk, if◌then◌else◌};
+ghost use Rattle.std.specs.List.{list_any, flat_map, enumerate_from};
+ghost use Rattle.doll_schema.specs.declared.model.BelongsTo.{BelongsTo};
+ghost use Rattle.doll_table.specs.Tables.{ids_under};
+ghost use Rattle.doll_commit.specs.Records.{has, with_refs, SameRefs};
+ghost use Rattle.doll_commit.specs.Removed as spec;
+
+use crate::walk::{Ref, Refs};
+use doll_expr::Memory;
+use doll_schema::{BelongsTo, HasMany, Schema};
+use doll_table::Table;
+use std::alloc::Global;
+
+/// A record, those that go because it goes, those that go because they go, and so on.
+pub fn removed_with(
+    alloc: Global,
+    table: &Table,
+    schema: &Schema,
+    first: Ref,
+) -> Result<Refs, Memory>
+    ensures { IfOk result (λ removed. SameRefs removed (spec.removed_with table.now schema.now first)) }
+{
+    let mut removed = Refs::new(alloc);
+    removed.add(first)?;
+    let mut at = 0;
+    while let Some(gone) = removed.get(at) {
+        add_dependents(&mut removed, table, schema, gone)?;
+        at += 1;
+    }
+    Ok(removed)
+}
+
+/// Adds the records that go because a record goes.
+fn add_dependents(
+    removed: &mut Refs,
+    table: &Table,
+    schema: &Schema,
+    gone: Ref,
+) -> Result<(), Memory>
+    ensures { OnOk result (removed.new ≡ with_refs removed.old (spec.dependents table.now schema.now gone)) }
+{
+    let Some(model) = schema.models.get(gone.0 as usize) else {
+        return Ok(());
+    };
+    for many in model.has_many.as_slice() {
+        add_children(removed, table, gone.1, many)?;
+    }
+    Ok(())
+}
+
+/// Adds a record's children under an association, if that destroys them.
+fn add_children(
+    removed: &mut Refs,
+    table: &Table,
+    parent: u32,
+    many: &HasMany,
+) -> Result<(), Memory>
+    ensures { OnOk result (removed.new ≡ with_refs removed.old (spec.children_under table.now parent many.now)) }
+{
+    if !many.destroy {
+        return Ok(());
+    }
+    add_all(
+        removed,
+        many.model,
+        table.named(many.model, many.inverse, parent),
+    )
+}
+
+fn add_all(refs: &mut Refs, model: u16, ids: &[u32]) -> Result<(), Memory>
+    ensures { OnOk result (refs.new ≡ with_refs refs.old (map (λ id. (model, id)) ids.now)) }
+{
+    for id in ids {
+        refs.add((model, *id))?;
+    }
+    Ok(())
+}
+
+/// Whether a row outside of these records names one of them.
+pub fn is_restricted(table: &Table, schema: &Schema, removed: &Refs) -> Result<bool, Memory>
+    ensures { IfOk result (λ restricted. restricted ≡ spec.is_restricted table.now schema.now removed.now) }
+{
+    for gone in removed.as_slice() {
+        if is_named(table, schema, removed, *gone)? {
+            return Ok(true);
+        }
+    }
+    Ok(false)
+}
+
+/// Whether a row outside of these records names this one.
+fn is_named(table: &Table, schema: &Schema, removed: &Refs, gone: Ref) -> Result<bool, Memory>
+    ensures { IfOk result (λ named. named ≡ list_any (λ ref. not (has removed.now ref)) (spec.naming table.now schema.now gone)) }
+{
+    for (number, model) in schema.models.as_slice().iter().enumerate() {
+        let parents = model.belongs_to.as_slice();
+        if is_named_by(table, removed, gone, short(number)?, parents)? {
+            return Ok(true);
+        }
+    }
+    Ok(false)
+}
+
+/// The number of a model or an association, which has 16 bits. No schema that was read has more of them.
+pub fn short(number: usize) -> Result<u16, Memory>
+    ensures { IfOk result (λ n. n ≡ number) }
+{
+    u16::try_from(number).map_err(|_| Memory)
+}
+
+fn is_named_by(
+    table: &Table,
+    removed: &Refs,
+    gone: Ref,
+    model: u16,
+    parents: &[BelongsTo],
+) -> Result<bool, Memory>
+    ensures { IfOk result (λ named. named ≡ list_any (λ ref. not (has removed.now ref)) (flat_map (spec.naming_by table.now gone model) (enumerate_from 0 parents.now))) }
+{
+    for (place, association) in parents.iter().enumerate() {
+        if is_named_at(table, removed, gone, model, short(place)?, association) {
+            return Ok(true);
+        }
+    }
+    Ok(false)
+}
+
+fn is_named_at(
+    table: &Table,
+    removed: &Refs,
+    gone: Ref,
+    model: u16,
+    place: u16,
+    association: &BelongsTo,
+) -> bool
+    ensures { result ≡ list_any (λ ref. not (has removed.now ref)) (spec.naming_by table.now gone model (place, association.now)) }
+{
+    association.model == gone.0 && stays(removed, model, table.named(model, place, gone.1))
+}
+
+/// Whether one of these is not to be removed.
+fn stays(removed: &Refs, model: u16, ids: &[u32]) -> bool
+    ensures { result ≡ list_any (λ ref. not (has removed.now ref)) (map (λ id. (model, id)) ids.now) }
+{
+    for id in ids {
+        if !removed.contains((model, *id)) {
+            return true;
+        }
+    }
+    false
+}
+
+/// Removes these records.
+pub fn remove_all(table: &mut Table, removed: &[Ref]) -> Result<(), Memory>
+    requires { (ref : ℕ × ℕ) → has removed.now ref ≡ true → ref.0 < length table.old.schema.models }
+    ensures { OnOk result (table.new ≡ spec.without_rows table.old removed.now) }
+{
+    for (model, id) in removed {
+        table.remove(*model, *id)?;
+    }
+    Ok(())
+}
