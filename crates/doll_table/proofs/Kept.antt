@@ -109,6 +109,17 @@ relinked es fs ls ms ns id old new are was lost gained made q = by_test (eqb (ch
         ∙ (lost q ∙ (ap (λ b. cond (b && option_map_or (has_link q) old false) None (find nat_cmp q (linked ls))) t
         ∙ (are q ∙ sym (ap (linked_child q) (made (child_of q) ∙ ap (λ b. cond b new (find nat_cmp (child_of q) es)) t))))))
 
+-- links of which those of one child are its new row's
+moved : (es fs : List (ℕ × Row)) (ls ns : List ℕ) (id : ℕ) (new : Row) → AreLinked es ls
+    → ((q : ℕ) → find nat_cmp q (linked ns) ≡ cond (eqb (child_of q) id) (linked_child q (Some new)) (find nat_cmp q (linked ls)))
+    → ((k : ℕ) → find nat_cmp k fs ≡ cond (eqb k id) (Some new) (find nat_cmp k es)) → AreLinked fs ns
+moved es fs ls ns id new are linked_now made q =
+    linked_now q ∙ (ap (cond (eqb (child_of q) id) (linked_child q (Some new))) (are q) ∙ (by_test (eqb (child_of q) id) (find nat_cmp (child_of q) es) ∙ sym (ap (linked_child q) (made (child_of q)))))
+  where
+    by_test : (b : Bool) (row : Option Row) → cond b (linked_child q (Some new)) (linked_child q row) ≡ linked_child q (cond b (Some new) row)
+    by_test true row = refl
+    by_test false row = refl
+
 -- what an edit of a model's rows leaves: they are kept, and they are this map
 pub record Leaves (ids : List ℕ) (rows : List Row) (links : List ℕ) (map : finite.FinMap nat_cmp Row) : Type 0 where
   pub kept : AreKept ids rows links
@@ -156,19 +167,22 @@ module _ (ids : List ℕ) (rows : List Row) (links : List ℕ) (kept : AreKept i
       found_at (zip ids rows) i id (0, o) kept.sorted (omega (arith, length_both ids rows kept.long)) (id_at ids rows i (0, o) kept.long l ∙ at)
       ∙ (ap (λ (p : ℕ × Row). Some p.1) (get_or-zip ids rows i (0, o) l (omega (arith, kept.long))) ∙ ap Some (sym is))
 
+  -- the links of a child that lives
+  child_links : (i id : ℕ) (o : Row) → i < length ids → get_or ids i 0 ≡ id → o ≡ get_or rows i o → (q : ℕ) → child_of q ≡ id → find nat_cmp q (linked links) ≡ linked_child q (Some o)
+  child_links i id o l at is q e = kept.links q ∙ ap (linked_child q) (ap (λ k. find nat_cmp k (zip ids rows)) e ∙ found_entry i id o l at is)
+
   -- a row in the place of another under its id
-  pub put_there : (i id : ℕ) (o row : Row) (ms ns : List ℕ) → i < length ids → get_or ids i 0 ≡ id → o ≡ get_or rows i o
-      → ((q : ℕ) → find nat_cmp q (linked ms) ≡ cond (eqb (child_of q) id && has_link q o) None (find nat_cmp q (linked links)))
-      → ((q : ℕ) → find nat_cmp q (linked ns) ≡ cond (eqb (child_of q) id && has_link q row) (Some (child_of q)) (find nat_cmp q (linked ms)))
+  pub put_there : (i id : ℕ) (row : Row) (ns : List ℕ) → i < length ids → get_or ids i 0 ≡ id
+      → ((q : ℕ) → find nat_cmp q (linked ns) ≡ cond (eqb (child_of q) id) (linked_child q (Some row)) (find nat_cmp q (linked links)))
       → Leaves ids (set rows i row) ns (finite.insert (as_map ids rows) id row)
-  put_there i id o row ms ns l at is lost gained =
+  put_there i id row ns l at linked_now =
       let entries : zip ids (set rows i row) ≡ put nat_cmp id row (zip ids rows) =
-      zip_set ids rows i id row kept.long l at ∙ sym (put_at (zip ids rows) i id row (0, o) kept.sorted (omega (arith, length_both ids rows kept.long)) (id_at ids rows i (0, o) kept.long l ∙ at)) in
+      zip_set ids rows i id row kept.long l at ∙ sym (put_at (zip ids rows) i id row (0, row) kept.sorted (omega (arith, length_both ids rows kept.long)) (id_at ids rows i (0, row) kept.long l ∙ at)) in
       record {
         kept = record {
           long = length-set rows i row ∙ kept.long;
           sorted = subst (λ es. T (is_sorted nat_cmp es)) (sym entries) (is_sorted-put nat_cmp nat_cmp_total id row (zip ids rows) kept.sorted);
-          links = relinked (zip ids rows) (zip ids (set rows i row)) links ms ns id (Some o) (Some row) kept.links (found_entry i id o l at is) lost gained
+          links = moved (zip ids rows) (zip ids (set rows i row)) links ns id row kept.links linked_now
               (λ k. ap (find nat_cmp k) entries ∙ (find-put nat_cmp nat_cmp_total k id row (zip ids rows) ∙ ap (λ b. cond b (Some row) (find nat_cmp k (zip ids rows))) (is_test k id)));
         };
         is = ap (λ es. finite.from_sorted {R = nat_cmp} es) entries ∙ as_put (zip ids rows) id row kept.sorted;
@@ -244,6 +258,9 @@ module _ (ids : List ℕ) (rows : List Row) (links : List ℕ) (kept : AreKept i
   pub rise_searched : (i j : ℕ) → i ≤ j → j < length s → get_or s i 0 ≤ get_or s j 0
   rise_searched i j o l = rw same (ids_rise ids rows links kept i j o (rw same at l))
 
+  pub links_found : (i id : ℕ) (o : Row) → (i < length s) × (get_or s i 0 ≡ id) → o ≡ get_or rows i o → (q : ℕ) → child_of q ≡ id → find nat_cmp q (linked links) ≡ linked_child q (Some o)
+  links_found i id o h at = child_links ids rows links kept i id o (rw same at h.0) (rw same at h.1) at
+
   pub row_found : (extent : Extent) (i id : ℕ) (o : Row) → as_map ids rows ≡ extent.rows → (i < length s) × (get_or s i 0 ≡ id) → o ≡ get_or rows i o → Some o ≡ finite.get extent.rows id
   row_found extent i id o is h at =
       ap Some at ∙ (sym (map_found ids rows links kept i id o (rw same at h.0) (rw same at h.1)) ∙ ap (λ m. finite.get m id) is)
@@ -275,12 +292,11 @@ pub map_along : (ids js : List ℕ) (rows ss : List Row) (m : finite.FinMap nat_
 map_along ids js rows ss m e f is = ap (λ x. as_map x ss) e ∙ (ap (λ y. as_map ids y) f ∙ is)
 
 module _ (ids : List ℕ) (rows : List Row) (links : List ℕ) (kept : AreKept ids rows links) (s : List ℕ) (same : s ≡ ids) (extent : Extent) (is : as_map ids rows ≡ extent.rows) where
-  pub replaced : (i id : ℕ) (o row : Row) (ms ns : List ℕ) → (i < length s) × (get_or s i 0 ≡ id) → o ≡ get_or rows i o
-      → ((q : ℕ) → find nat_cmp q (linked ms) ≡ cond (eqb (child_of q) id && has_link q o) None (find nat_cmp q (linked links)))
-      → ((q : ℕ) → find nat_cmp q (linked ns) ≡ cond (eqb (child_of q) id && has_link q row) (Some (child_of q)) (find nat_cmp q (linked ms)))
+  pub replaced : (i id : ℕ) (row : Row) (ns : List ℕ) → (i < length s) × (get_or s i 0 ≡ id)
+      → ((q : ℕ) → find nat_cmp q (linked ns) ≡ cond (eqb (child_of q) id) (linked_child q (Some row)) (find nat_cmp q (linked links)))
       → Leaves ids (set rows i row) ns (finite.insert extent.rows id row)
-  replaced i id o row ms ns h at lost gained =
-      subst (λ m. Leaves ids (set rows i row) ns (finite.insert m id row)) is (put_there ids rows links kept i id o row ms ns (rw same at h.0) (rw same at h.1) at lost gained)
+  replaced i id row ns h linked_now =
+      subst (λ m. Leaves ids (set rows i row) ns (finite.insert m id row)) is (put_there ids rows links kept i id row ns (rw same at h.0) (rw same at h.1) linked_now)
 
   pub gained : (i id : ℕ) (row : Row) (ns js : List ℕ) (ss : List Row) → WouldGo s id i
       → ((q : ℕ) → find nat_cmp q (linked ns) ≡ cond (eqb (child_of q) id && has_link q row) (Some (child_of q)) (find nat_cmp q (linked links)))

@@ -1,17 +1,18 @@
 -- Which links a record has, association by association.
-use Rattle.std.proofs.Common.{◌≡◌, ℕ, zero, suc, ◌+◌, ◌/◌, ◌%◌, ◌^◌, ◌<◌, ◌≤◌, Bool, true, false, not, cond, ◌&&◌, ◌||◌, List, [], ◌∷◌, length, get_or, Option, Some, None, eqb, ltb, refl, sym, ◌∙◌, ap, arith, ◌⊎◌, inl, inr}
+use Rattle.std.proofs.Common.{true≢false, is_some, ◌≡◌, ℕ, zero, suc, ◌+◌, ◌/◌, ◌%◌, ◌^◌, ◌<◌, ◌≤◌, Bool, true, false, not, cond, ◌&&◌, ◌||◌, List, [], ◌∷◌, length, get_or, Option, Some, None, eqb, ltb, refl, sym, ◌∙◌, ap, arith, ◌⊎◌, inl, inr}
 use Rattle.std.specs.Prelude.{slice_get}
-use Rattle.std.specs.Option.{option_and_then, option_map_or}
+use Rattle.std.specs.Bool.{Decides}
+use Rattle.std.specs.Option.{option_and_then, option_map_or, option_eq, unwrap_or}
 use Rattle.std.specs.Ordering.{nat_cmp, eq_by_cmp}
 use Rattle.std.specs.declared.cmp.Ordering.TheVariants.{Equal}
 use Rattle.std.specs.Cmp.{nat_cmp_total}
 use Rattle.std.specs.FinMap.Entries.{put, where_key, find, find-put, find-where_key}
 use Rattle.std.proofs.lemmas.Option.{slice_get-get_or}
-use Rattle.std.proofs.lemmas.Bool.{cases_order, lt-ltb, le-ltb, eq-eqb, ne_eqb}
+use Rattle.std.proofs.lemmas.Bool.{cases_order, lt-ltb, le-ltb, eq-eqb, eqb-true, ne_eqb}
 use Rattle.std.proofs.lemmas.Bool.Decides.{nat_tests, same_from_decides, Decides-and, Decides-eqb, Decides-like}
 use Rattle.doll_schema.specs.declared.value.Row.{Row}
 use Rattle.doll_table.specs.Tables.{parent_of, names_parent}
-use Rattle.doll_table.specs.Links.{child_of, link_of, has_link}
+use Rattle.doll_table.specs.Links.{linked, child_of, link_of, has_link, linked_child}
 
 is_eq_test : (a b : ℕ) → eq_by_cmp nat_cmp a b ≡ eqb a b
 is_eq_test a b = grind (arith, nat_tests)
@@ -137,3 +138,38 @@ nil_step_found row id i q other found first e before = before ∙ ap (λ b. cond
 
 pub all_found : {X : Type 0} (row : Row) (id i q : ℕ) (other : Option X) (found first : Option X) → length row.parents ≤ i → found ≡ cond (is_early row id i q) other first → found ≡ cond (eqb (child_of q) id && has_link q row) other first
 all_found row id i q other found first past before = before ∙ ap (λ b. cond b other first) (early_all row id i q past)
+
+-- the test of `==` on two keys
+pub keys_decide : (a b : Option ℕ) → Decides (option_eq eqb a b) (a ≡ b)
+keys_decide None None = (λ _. refl, λ _. refl)
+keys_decide None (Some w) = (λ e. absurd (true≢false (sym e)), λ e. absurd (true≢false (ap is_some (sym e))))
+keys_decide (Some v) None = (λ e. absurd (true≢false (sym e)), λ e. absurd (true≢false (ap is_some e)))
+keys_decide (Some v) (Some w) = (λ e. ap Some ((Decides-eqb v w).0 e), λ e. (Decides-eqb v w).1 (ap (λ u. unwrap_or u v) e))
+
+-- the links of a row are by its parents alone
+same_links : (a b : Row) (q : ℕ) → a.parents ≡ b.parents → has_link q a ≡ has_link q b
+same_links a b q e = ap (λ keys. option_map_or (λ k. eqb k (q / 2 ^ 32 % 2 ^ 32)) (option_and_then (λ k. k) (slice_get keys (q / 2 ^ 32 / 2 ^ 32))) false) e
+
+-- links that are those of a child's old row, as its new one has the same parents
+pub links_stay : (old new : Row) (id : ℕ) (ls : List ℕ) → ((q : ℕ) → child_of q ≡ id → find nat_cmp q (linked ls) ≡ linked_child q (Some old)) → old.parents ≡ new.parents
+    → (q : ℕ) → find nat_cmp q (linked ls) ≡ cond (eqb (child_of q) id) (linked_child q (Some new)) (find nat_cmp q (linked ls))
+links_stay old new id ls kept same q = by_test (eqb (child_of q) id) refl
+  where
+    by_test : (b : Bool) → eqb (child_of q) id ≡ b → find nat_cmp q (linked ls) ≡ cond b (linked_child q (Some new)) (find nat_cmp q (linked ls))
+    by_test true t = kept q (eqb-true (child_of q) id t) ∙ ap (λ h. cond h (Some (child_of q)) None) (same_links old new q same)
+    by_test false t = refl
+
+-- links that lose those of a child's old row and gain those of its new one
+pub links_move : (old new : Row) (id : ℕ) (ls ms ns : List ℕ) → ((q : ℕ) → child_of q ≡ id → find nat_cmp q (linked ls) ≡ linked_child q (Some old))
+    → ((q : ℕ) → find nat_cmp q (linked ms) ≡ cond (eqb (child_of q) id && has_link q old) None (find nat_cmp q (linked ls)))
+    → ((q : ℕ) → find nat_cmp q (linked ns) ≡ cond (eqb (child_of q) id && has_link q new) (Some (child_of q)) (find nat_cmp q (linked ms)))
+    → (q : ℕ) → find nat_cmp q (linked ns) ≡ cond (eqb (child_of q) id) (linked_child q (Some new)) (find nat_cmp q (linked ls))
+links_move old new id ls ms ns kept lost gained q = gained q ∙ (ap (cond (eqb (child_of q) id && has_link q new) (Some (child_of q))) (lost q) ∙ by_test (eqb (child_of q) id) refl)
+  where
+    emptied : (h : Bool) (x : Option ℕ) → cond h None (cond h x None) ≡ None
+    emptied true x = refl
+    emptied false x = refl
+
+    by_test : (b : Bool) → eqb (child_of q) id ≡ b → cond (b && has_link q new) (Some (child_of q)) (cond (b && has_link q old) None (find nat_cmp q (linked ls))) ≡ cond b (linked_child q (Some new)) (find nat_cmp q (linked ls))
+    by_test true t = ap (cond (has_link q new) (Some (child_of q))) (ap (cond (has_link q old) None) (kept q (eqb-true (child_of q) id t)) ∙ emptied (has_link q old) (Some (child_of q)))
+    by_test false t = refl

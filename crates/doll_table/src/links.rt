@@ -1,9 +1,10 @@
 //! The links of a model's rows to their parents, in one order, so that a parent's children stand together.
 
 ghost use Rattle.std.specs.Prelude.{◌≡◌, [], ℕ, ◌+◌, ◌*◌, ◌^◌, ◌<◌, ◌≤◌, ◌&&◌, ◌==◌, not, length, map, filter, slice_index, vec_len, vec_capacity, MatchResult, nat_le, nat_lt, IfOk, OnOk, T, if◌then◌else◌};
+ghost use Rattle.std.specs.Bool.{Decides};
 ghost use Rattle.std.specs.Ordering.{nat_cmp, eq_by_cmp};
 ghost use Rattle.std.specs.FinMap.Entries.{find, put, where_key, is_sorted};
-ghost use Rattle.doll_table.specs.Links.{linked, child_of, link_of, has_link};
+ghost use Rattle.doll_table.specs.Links.{linked, child_of, link_of, has_link, linked_child};
 
 use doll_expr::Memory;
 use doll_schema::Row;
@@ -112,6 +113,28 @@ fn bound(links: &[u128], link: u128) -> usize
         Ok(at) => at,
         Err(at) => at,
     }
+}
+
+/// Moves the links of a record from those of its old row to those of its new one, for which there is room. Where both
+/// have the same parents, as in most updates and each touch, no link moves.
+pub fn relink(links: &mut Links, old: &Row, new: &Row, id: u32)
+    requires kept { (q : ℕ) → child_of q ≡ id → find nat_cmp q (linked links.old.links.items) ≡ linked_child q (Some old.now) }
+    requires room { vec_len links.old.links + length new.now.parents ≤ vec_capacity links.old.links }
+    requires children_room { vec_len links.old.children + length new.now.parents ≤ vec_capacity links.old.children }
+    ensures { (q : ℕ) → find nat_cmp q (linked links.new.links.items) ≡ (if child_of q == id then linked_child q (Some new.now) else find nat_cmp q (linked links.old.links.items)) }
+{
+    if same_parents(old, new) {
+        return;
+    }
+    unlink(links, old, id);
+    link(links, new, id);
+}
+
+/// Whether two rows have the same foreign keys.
+fn same_parents(a: &Row, b: &Row) -> bool
+    ensures { Decides result (a.now.parents ≡ b.now.parents) }
+{
+    a.parents.as_slice() == b.parents.as_slice()
 }
 
 /// Adds the links of a record, for which there is room.

@@ -6,7 +6,7 @@ ghost use Rattle.std.specs.FinMap as finite;
 ghost use Rattle.doll_schema.specs.declared.value.Row.{Row};
 ghost use Rattle.doll_table.specs.Tables.{names_parent};
 
-use crate::links::{Links, link, unlink};
+use crate::links::{Links, link, relink, unlink};
 use doll_expr::{Copied, Memory};
 use doll_schema::Row;
 use std::alloc::Global;
@@ -124,8 +124,7 @@ impl ModelRows {
         self.links.reserve(row.parents.len())?;
         match seek(self.ids.as_slice(), id) {
             Ok(at) => {
-                unlink(&mut self.links, &self.rows[at], id);
-                link(&mut self.links, &row, id);
+                relink(&mut self.links, &self.rows[at], &row, id);
                 self.rows[at] = row;
                 Ok(())
             }
