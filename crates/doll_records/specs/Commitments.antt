@@ -1,0 +1,40 @@
+-- What recording a commit after a history comes to (this project's own).
+use Rattle.std.specs.Prelude.{ℕ, ◌+◌, ◌-◌, ◌^◌, nat_lt, List, length, Result, Ok, Err}
+use Rattle.doll_schema.specs.Steps.{◌>>=◌, ◌>>◌, check}
+use Rattle.doll_schema.specs.declared.model.Schema.{Schema}
+use Rattle.doll_journal.specs.declared.change.Change.{Change}
+use Rattle.doll_journal.specs.declared.change.Commit.{Commit}
+use Rattle.doll_commit.specs.declared.apply.Applied.{Applied}
+use Rattle.doll_commit.specs.declared.fault.CommitFault.{CommitFault}
+use Rattle.doll_commit.specs.Commits.{commit_of}
+use Rattle.doll_records.specs.declared.committing.Committed.{Committed}
+use Rattle.doll_records.specs.declared.committing.Prepared.{Prepared}
+use Rattle.doll_records.specs.declared.fault.RecordFault.{RecordFault}
+use Rattle.doll_records.specs.declared.fault.RecordFault.TheVariants as records
+use Rattle.doll_records.specs.Faults.{record_commit_fault}
+use Rattle.doll_records.specs.Histories.{table_of, last_moment, next_moment, most_commits}
+
+-- the commit that is asked for at a time, after a history
+abbrev pub asked : List Commit → ℕ → ℕ → List Change → ℕ → Commit
+asked history author serial changes now = record {
+  author = author;
+  serial = serial;
+  moment = next_moment (last_moment 0 history) now;
+  changes = changes;
+}
+
+abbrev pub or_refused : Result Applied CommitFault → Result Applied RecordFault
+or_refused (Ok applied) = Ok applied
+or_refused (Err fault) = Err (record_commit_fault fault)
+
+-- what was made of a commit that is prepared
+abbrev pub made : Prepared → Applied
+made prepared = record { table = prepared.table; ids = prepared.ids }
+
+-- what a commit after a history comes to, while the keeper serves and memory is found
+abbrev pub committed : Schema → List Commit → Commit → Result Committed RecordFault
+committed schema history commit = do
+  check (nat_lt (length history) most_commits) (records.HistoryFull most_commits)
+  check (nat_lt (last_moment 0 history) (2 ^ 63 - 1)) (records.MomentsEnded (2 ^ 63 - 1))
+  applied ← or_refused (commit_of (table_of schema history) schema commit)
+  Ok (record { place = length history + 1; moment = commit.moment; ids = applied.ids })

@@ -1,0 +1,4 @@
+pub mod Commitments
+pub mod Faults
+pub mod Histories
+pub mod Openings

@@ -1,0 +1,15 @@
+//! One history of commits, which a keeper keeps.
+#![tactic(auto)]
+
+pub mod committing;
+pub mod fault;
+pub mod opening;
+pub mod records;
+
+pub use committing::Committed;
+pub use fault::{OpenFault, RecordFault};
+pub use opening::{Past, opens_again, replay};
+pub use records::{Records, SharedTable, Snapshot, moments_tell_places};
+
+#[cfg(test)]
+mod tests;
