@@ -1,10 +1,10 @@
 pub mod Alone
+pub mod Answered
 pub mod Digits
-pub mod Fitting
-pub mod Growth
 pub mod Jsons
-pub mod Keeping
 pub mod Longs
+pub mod Made
 pub mod Members
-pub mod Steps
+pub mod Readings
+pub mod Timing
 pub mod Views

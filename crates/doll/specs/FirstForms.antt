@@ -1,5 +1,4 @@
--- The bundles that are read so far: one model without associations, one route of a record, one view, and commits that
--- create (this project's own).
+-- The bundles that are read so far: those with one route, of a record, and one view, its template (this project's own).
 use Rattle.std.specs.Prelude.{ℕ, Bool, true, false, ◌&&◌, not, nat_eq, List, [], ◌∷◌, Option, None, Some, option_and_then, is_some, is_none, codes, if◌then◌else◌}
 use Rattle.std.specs.List.{ends_with}
 use Rattle.std.specs.Str.{bytes_eq}
@@ -34,29 +33,6 @@ found >>= f = option_and_then f found
 -- the value, where the test holds
 abbrev pub where_holds : {A : Type 0} → Bool → A → Option A
 where_holds holds value = if holds then Some value else None
-
--- the one model of a schema, without associations
-abbrev pub has_plain_model : Data → Bool
-has_plain_model schema = is_some (list_at (codes "models") schema >>= only_item >>= λ model. where_holds (is_none (get (codes "belongs_to") model) && is_none (get (codes "has_many") model)) model)
-
--- each change of the array creates; what is no array has none
-abbrev pub each_creates : Items → Bool
-each_creates no_items = true
-each_creates (item change changes) = is_some (get (codes "create") change) && each_creates changes
-
-abbrev pub all_create : Option Data → Bool
-all_create None = true
-all_create (Some (array changes)) = each_creates changes
-all_create (Some other) = true
-
--- each commit has a moment and changes that create
-abbrev pub each_commit_creates : Items → Bool
-each_commit_creates no_items = true
-each_commit_creates (item commit commits) = is_some (get (codes "at") commit) && all_create (get (codes "changes") commit) && each_commit_creates commits
-
-abbrev pub commits_create : Data → Bool
-commits_create (array commits) = each_commit_creates commits
-commits_create other = true
 
 -- the one route, and the path and template that it names
 abbrev pub route_keys : List (List ℕ)
@@ -94,5 +70,5 @@ parts_of bundle = do
   views ← object_at (codes "views") bundle
   source ← source_of named.template views
   commits ← get (codes "commits") bundle
-  where_holds (has_only bundle_keys bundle && has_plain_model schema && commits_create commits)
+  where_holds (has_only bundle_keys bundle)
       (record { schema = schema; path = named.path; template = named.template; owner = named.owner; source = source; commits = commits })

@@ -1,4 +1,3 @@
-pub mod Creates
 pub mod FirstForms
 pub mod Pasts
 pub mod Paths
@@ -7,3 +6,4 @@ pub mod Replies
 pub mod Seen
 pub mod Sites
 pub mod Standing
+pub mod Timed

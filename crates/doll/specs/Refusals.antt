@@ -26,9 +26,13 @@ kind_name kind.BadTemplate = codes "BadTemplate"
 kind_name kind.UnknownAttribute = codes "UnknownAttribute"
 kind_name kind.WrongKind = codes "WrongKind"
 kind_name kind.NullRefused = codes "NullRefused"
+kind_name kind.MissingRow = codes "MissingRow"
+kind_name kind.BadParent = codes "BadParent"
+kind_name kind.Restricted = codes "Restricted"
 kind_name kind.IdsEnded = codes "IdsEnded"
 kind_name kind.TooManyChanges = codes "TooManyChanges"
 kind_name kind.MomentsEnded = codes "MomentsEnded"
+kind_name kind.HistoryFull = codes "HistoryFull"
 
 -- `bundle`, the part, the number, a colon and the kind
 abbrev pub refusal_line : BundlePart → ℕ → Kind → List ℕ

@@ -1,5 +1,5 @@
 -- What the program answers to its words and its input (this project's own).
-use Rattle.std.specs.Prelude.{ℕ, ◌≡◌, ◌≢◌, ◌⊎◌, Bool, nat_lt, List, [], ◌∷◌, ◌++◌, length, bytes_eq, Option, None, Some, Result, Ok, Err, codes, is_some, if◌then◌else◌}
+use Rattle.std.specs.Prelude.{ℕ, ◌≡◌, ◌≢◌, ◌⊎◌, Bool, nat_lt, List, [], ◌∷◌, ◌++◌, length, bytes_eq, Option, None, Some, Result, Ok, Err, codes, is_some, IfSome, if◌then◌else◌}
 use Rattle.std.specs.Option.{option_map_or}
 use Rattle.doll_schema.specs.declared.value.Val.TheVariants as val
 use Rattle.doll_table.specs.Tables.{row_of}
@@ -9,7 +9,7 @@ use Rattle.doll.specs.declared.refusal.Refusal.TheVariants as refusal
 use Rattle.doll.specs.Refusals.{refusal_line}
 use Rattle.doll.specs.Paths.{requested_id}
 use Rattle.doll.specs.declared.site.Site.{Site}
-use Rattle.doll.specs.Sites.{site_of}
+use Rattle.doll.specs.Sites.{site_of, readings_for}
 use Rattle.doll.specs.declared.reply.Reply.{Reply}
 use Rattle.doll_base.specs.Streams.{Appended, AppendedPart}
 
@@ -32,15 +32,15 @@ unknown path = record { status = 5; text = line (codes "unknown " ++ path) }
 -- the record that a request names, where it lives
 abbrev pub living : Site → Option ℕ → Option ℕ
 living site None = None
-living site (Some id) = if is_some (row_of site.table 0 id) then Some id else None
+living site (Some id) = if is_some (row_of site.table site.pages.model id) then Some id else None
 
 -- the page of a record: the direct rendering of the template with the record under its model's name
 abbrev pub page_of : Site → ℕ → List ℕ
-page_of site id = direct (plain_scene site.schema site.table) site.tree ((site.owner, val.Record 0 id) ∷ [])
+page_of site id = direct (plain_scene site.pages.schema site.table) site.pages.tree ((site.pages.owner, val.Record site.pages.model id) ∷ [])
 
 -- the page of a path, where its record lives
 abbrev pub page_reply : Site → List ℕ → Reply
-page_reply site path = option_map_or (λ id. record { status = 0; text = page_of site id }) (living site (requested_id site.path path)) (unknown path)
+page_reply site path = option_map_or (λ id. record { status = 0; text = page_of site id }) (living site (requested_id site.pages.path path)) (unknown path)
 
 -- a bundle that is refused, or of a form that isn't read yet
 abbrev pub refusal_reply : Refusal → Reply
@@ -51,23 +51,32 @@ abbrev pub site_reply : Result Site Refusal → List ℕ → Reply
 site_reply (Ok site) path = page_reply site path
 site_reply (Err why) path = refusal_reply why
 
--- a page of a site that is read from the input
-abbrev pub plain_reply : List ℕ → List ℕ → Reply
-plain_reply path input = if nat_lt 16777216 (length input) then too_long else site_reply (site_of input) path
+-- a page of a site that is read from the input, where the clock gives these readings
+abbrev pub plain_reply : List ℕ → List ℕ → List ℕ → Reply
+plain_reply path input readings = if nat_lt 16777216 (length input) then too_long else site_reply (site_of input readings) path
 
 -- the path of the words `plain PATH`
 abbrev pub plain_path : List (List ℕ) → Option (List ℕ)
 plain_path (word ∷ path ∷ []) = if bytes_eq word (codes "plain") then Some path else None
 plain_path words = None
 
--- the answer to words and an input
-abbrev pub reply_of : List (List ℕ) → List ℕ → Reply
-reply_of words input = option_map_or (λ path. plain_reply path input) (plain_path words) usage
+-- the answer to words and an input, where the clock gives these readings
+abbrev pub reply_of : List (List ℕ) → List ℕ → List ℕ → Reply
+reply_of words input readings = option_map_or (λ path. plain_reply path input readings) (plain_path words) usage
 
--- This is the answer where the source tells its bytes; else it is that of some input.
-abbrev pub IsReply : List (List ℕ) → Option (List ℕ) → Reply → Type 0
-IsReply words None reply = (input : List ℕ) × (reply ≡ reply_of words input)
-IsReply words (Some input) reply = reply ≡ reply_of words input
+-- how many readings the answer takes: one for each commit of the bundle that says no time, where it comes to its commits
+abbrev pub readings_of : List (List ℕ) → List ℕ → ℕ
+readings_of words input = option_map_or (λ path. if nat_lt 16777216 (length input) then 0 else readings_for input) (plain_path words) 0
+
+-- This is the answer to the input that the source had left and the readings that the clock then gave, where these are
+-- told; else it is that of some input and readings.
+pub record IsReply (words : List (List ℕ)) (left before after : Option (List ℕ)) (reply : Reply) : Type 0 where
+  pub input : List ℕ
+  pub readings : List ℕ
+  pub told : IfSome left (λ bytes. bytes ≡ input)
+  pub taken : Appended before after readings
+  pub count : length readings ≡ readings_of words input
+  pub is : reply ≡ reply_of words input readings
 
 -- Statuses other than those of a failed read, a failed write and want of memory answer the words and the input.
 abbrev pub IsAnswer : ℕ → Type 0
@@ -77,10 +86,20 @@ IsAnswer status = (status ≢ 7) × (status ≢ 8) × (status ≢ 9)
 abbrev pub IsSilent : ℕ → Type 0
 IsSilent status = (status ≡ 7) ⊎ (status ≡ 9)
 
+-- What goes into an answer: the words, what the source has left, and the clock's readings before and after.
+pub record Asking : Type 0 where
+  pub words : List (List ℕ)
+  pub left : Option (List ℕ)
+  pub before : Option (List ℕ)
+  pub after : Option (List ℕ)
+
+abbrev pub IsReplyTo : Asking → Reply → Type 0
+IsReplyTo asking = IsReply asking.words asking.left asking.before asking.after
+
 -- The status is the reply's, and the sink holds the reply's text behind what it held.
-abbrev pub Answers : List (List ℕ) → Option (List ℕ) → Option (List ℕ) → Option (List ℕ) → ℕ → Type 0
-Answers words left before after status = (reply : Reply) × IsReply words left reply × (reply.status ≡ status) × Appended before after reply.text
+abbrev pub Answers : Asking → Option (List ℕ) → Option (List ℕ) → ℕ → Type 0
+Answers asking before after status = (reply : Reply) × IsReplyTo asking reply × (reply.status ≡ status) × Appended before after reply.text
 
 -- The sink holds a first part of the reply's text behind what it held.
-abbrev pub AnswersPart : List (List ℕ) → Option (List ℕ) → Option (List ℕ) → Option (List ℕ) → Type 0
-AnswersPart words left before after = (reply : Reply) × IsReply words left reply × AppendedPart before after reply.text
+abbrev pub AnswersPart : Asking → Option (List ℕ) → Option (List ℕ) → Type 0
+AnswersPart asking before after = (reply : Reply) × IsReplyTo asking reply × AppendedPart before after reply.text

@@ -1,5 +1,5 @@
 -- The site that a bundle describes, or why it is refused (this project's own).
-use Rattle.std.specs.Prelude.{ℕ, zero, ◌+◌, ◌-◌, ◌^◌, Bool, true, false, not, ◌&&◌, nat_lt, nat_le, List, [], ◌∷◌, length, slice_get, bytes_eq, Option, None, Some, Result, Ok, Err, codes, if◌then◌else◌}
+use Rattle.std.specs.Prelude.{ℕ, zero, ◌+◌, ◌-◌, ◌^◌, Bool, true, false, not, ◌&&◌, nat_lt, nat_le, List, [], ◌∷◌, length, bytes_eq, position, option_and_then, Option, None, Some, Result, Ok, Err, codes, if◌then◌else◌}
 use Rattle.std.specs.Option.{option_map_or, ok_or}
 use Rattle.std.specs.Str.{is_utf8}
 use Rattle.serde_json.specs.Data.{Data, string, array, Items, no_items, item}
@@ -21,11 +21,12 @@ use Rattle.doll.specs.declared.refusal.Kind.{Kind}
 use Rattle.doll.specs.declared.refusal.Kind.TheVariants as kind
 use Rattle.doll.specs.declared.refusal.Refusal.{Refusal}
 use Rattle.doll.specs.declared.refusal.Refusal.TheVariants.{NotBuilt, Refused}
-use Rattle.doll.specs.declared.past.Past.{Past}
+use Rattle.doll_table.specs.Tables.{TableMap}
+use Rattle.doll.specs.declared.site.Pages.{Pages}
 use Rattle.doll.specs.declared.site.Site.{Site}
 use Rattle.doll.specs.Paths.{record_path, is_virtual_path}
 use Rattle.doll.specs.FirstForms.{Parts, parts_of}
-use Rattle.doll.specs.Pasts.{table_in}
+use Rattle.doll.specs.Pasts.{untimed, commits_in, all_recorded}
 use Rattle.doll.specs.Standing.{tree_alone}
 
 -- the JSON value that the bytes are
@@ -63,16 +64,19 @@ path_if form path = if form then ok_or (record_path path) (route_refusal kind.Ba
 abbrev pub route_path : Parts → Result (List ℕ) Refusal
 route_path parts = path_if (is_virtual_path parts.template && nat_le (length parts.template) longest_virtual_path && option_map_or (λ name. true) (as_str parts.owner) false) parts.path
 
--- the one model, if it has the route's name
-abbrev pub model_if : List ℕ → Option Model → Result Model Refusal
-model_if name None = Err (route_refusal kind.UnknownModel)
-model_if name (Some model) = if bytes_eq model.name name then Ok model else Err (route_refusal kind.UnknownModel)
+-- the number of the model that a route names; numbers have 16 bits
+abbrev pub within_16_bits : ℕ → Option ℕ
+within_16_bits at = if nat_lt at (2 ^ 16) then Some at else None
 
-abbrev pub first_model : Schema → List ℕ → Result Model Refusal
-first_model schema name = model_if name (slice_get schema.models 0)
+abbrev pub model_number : Schema → List ℕ → Option ℕ
+model_number schema name = option_and_then within_16_bits (position (λ (m : Model). bytes_eq m.name name) schema.models)
 
-abbrev pub route_model : Parts → Schema → Result Model Refusal
-route_model parts schema = ok_or (as_str parts.owner) (route_refusal kind.BadForm) >>= first_model schema
+abbrev pub model_named : Schema → List ℕ → Result ℕ Refusal
+model_named schema name = ok_or (model_number schema name) (route_refusal kind.UnknownModel)
+
+-- the name that a route names its model by
+abbrev pub route_name : Parts → Result (List ℕ) Refusal
+route_name parts = ok_or (as_str parts.owner) (route_refusal kind.BadForm)
 
 -- the source of the view, of at most 262,144 bytes
 abbrev pub short_source : List ℕ → Result (List ℕ) Refusal
@@ -94,32 +98,74 @@ or_bad_template (Err why) = Err (Refused part.Views 0 kind.BadTemplate)
 abbrev pub tree_in : List ℕ → Result (List Node) Refusal
 tree_in text = or_bad_template (tree_of text) >>= lone_tree
 
--- the site of a bundle's parts: schema, route, view, template and commits in turn, or the first refusal
-abbrev pub after_past : Schema → List ℕ → Model → List Node → Past → Result Site Refusal
-after_past schema path model tree past = Ok (record { path = path; owner = model.name; tree = tree; schema = schema; table = past.table })
+-- the pages of a bundle's parts: schema, route, view and template in turn, or the first refusal
+abbrev pub after_tree : Schema → List ℕ → List ℕ → ℕ → List Node → Result Pages Refusal
+after_tree schema path owner model tree = Ok (record { path = path; model = model; owner = owner; tree = tree; schema = schema })
 
-abbrev pub after_tree : Parts → Schema → List ℕ → Model → List Node → Result Site Refusal
-after_tree parts schema path model tree = table_in schema model parts.commits >>= after_past schema path model tree
+abbrev pub after_source : Schema → List ℕ → List ℕ → ℕ → List ℕ → Result Pages Refusal
+after_source schema path owner model source = tree_in source >>= after_tree schema path owner model
 
-abbrev pub after_source : Parts → Schema → List ℕ → Model → List ℕ → Result Site Refusal
-after_source parts schema path model source = tree_in source >>= after_tree parts schema path model
+abbrev pub after_model : Parts → Schema → List ℕ → List ℕ → ℕ → Result Pages Refusal
+after_model parts schema path owner model = source_in parts.source >>= after_source schema path owner model
 
-abbrev pub after_model : Parts → Schema → List ℕ → Model → Result Site Refusal
-after_model parts schema path model = source_in parts.source >>= after_source parts schema path model
+abbrev pub after_name : Parts → Schema → List ℕ → List ℕ → Result Pages Refusal
+after_name parts schema path owner = model_named schema owner >>= after_model parts schema path owner
 
-abbrev pub after_path : Parts → Schema → List ℕ → Result Site Refusal
-after_path parts schema path = route_model parts schema >>= after_model parts schema path
+abbrev pub after_path : Parts → Schema → List ℕ → Result Pages Refusal
+after_path parts schema path = route_name parts >>= after_name parts schema path
 
-abbrev pub after_schema : Parts → Schema → Result Site Refusal
+abbrev pub after_schema : Parts → Schema → Result Pages Refusal
 after_schema parts schema = route_path parts >>= after_path parts schema
 
-abbrev pub site_in : Parts → Result Site Refusal
-site_in parts = or_schema_refusal (schema_of parts.schema) >>= after_schema parts
+unfoldable pub pages_in : Parts → Result Pages Refusal
+pages_in parts = or_schema_refusal (schema_of parts.schema) >>= after_schema parts
 
--- the site of a JSON value, where it is a bundle of the form
-abbrev pub site_of_json : Data → Result Site Refusal
-site_of_json json = ok_or (parts_of json) NotBuilt >>= site_in
+-- the site of pages, with the records that commits leave
+abbrev pub with_table : Pages → TableMap → Result Site Refusal
+with_table pages table = Ok (record { pages = pages; table = table })
 
--- the site of a bundle's bytes
-abbrev pub site_of : List ℕ → Result Site Refusal
-site_of bytes = ok_or (json_of bytes) (Refused part.Json 0 kind.BadForm) >>= site_of_json
+abbrev pub with_commits : Pages → List ℕ → Items → Result Site Refusal
+with_commits pages readings commits = all_recorded pages.schema readings commits >>= with_table pages
+
+unfoldable pub site_of_pages : List ℕ → Data → Pages → Result Site Refusal
+site_of_pages readings commits pages = commits_in commits >>= with_commits pages readings
+
+-- the site of a bundle's parts, where the clock gives these readings
+abbrev pub site_in : Parts → List ℕ → Result Site Refusal
+site_in parts readings = pages_in parts >>= site_of_pages readings parts.commits
+
+-- how many readings the commits need
+abbrev pub untimed_in : Data → ℕ
+untimed_in (array commits) = untimed commits
+untimed_in other = 0
+
+-- how many readings are taken for the parts: none where the pages are refused
+abbrev pub needed_by : Data → Result Pages Refusal → ℕ
+needed_by commits (Ok pages) = untimed_in commits
+needed_by commits (Err why) = 0
+
+abbrev pub readings_in : Parts → ℕ
+readings_in parts = needed_by parts.commits (pages_in parts)
+
+-- the parts of a bundle's bytes, where they are JSON of the form
+abbrev pub parts_of_json : Data → Result Parts Refusal
+parts_of_json json = ok_or (parts_of json) NotBuilt
+
+unfoldable pub parts_of_bytes : List ℕ → Result Parts Refusal
+parts_of_bytes bytes = ok_or (json_of bytes) (Refused part.Json 0 kind.BadForm) >>= parts_of_json
+
+-- the site of a bundle's bytes, where the clock gives these readings
+abbrev pub site_by : Result Parts Refusal → List ℕ → Result Site Refusal
+site_by (Ok parts) readings = site_in parts readings
+site_by (Err why) readings = Err why
+
+abbrev pub site_of : List ℕ → List ℕ → Result Site Refusal
+site_of bytes = site_by (parts_of_bytes bytes)
+
+-- how many readings are taken for it
+abbrev pub readings_by : Result Parts Refusal → ℕ
+readings_by (Ok parts) = readings_in parts
+readings_by (Err why) = 0
+
+abbrev pub readings_for : List ℕ → ℕ
+readings_for bytes = readings_by (parts_of_bytes bytes)

@@ -1,12 +1,10 @@
-//! The bundles that are read so far: one model without associations, one route of a record, one view, and commits that
-//! create.
+//! The bundles that are read so far: those with one route, of a record, and one view, its template.
 
 ghost use Rattle.std.specs.Prelude.{◌≡◌, codes, option_map, string_bytes};
-ghost use Rattle.serde_json.specs.Find.{get};
 ghost use Rattle.serde_json.specs.View.{items_view, members_view, view};
 ghost use Rattle.doll.specs.Seen.{seen_route, seen_parts};
 ghost use Rattle.doll.specs.Paths.{virtual_path};
-ghost use Rattle.doll.specs.FirstForms.{only_item, only_member, has_plain_model, each_creates, all_create, each_commit_creates, commits_create, route_parts, source_of, parts_of};
+ghost use Rattle.doll.specs.FirstForms.{only_item, only_member, route_parts, source_of, parts_of};
 
 use doll_schema::json::{has_only, list_at, object_at, text_at};
 use serde_json::{Map, Value};
@@ -31,69 +29,6 @@ fn only_item(items: &[Value]) -> Option<&Value>
         return None;
     };
     if more.is_empty() { Some(only) } else { None }
-}
-
-/// Whether a schema has one model, and that no associations.
-fn has_plain_model(schema: &Value) -> bool
-    ensures { result ≡ has_plain_model (view schema.now) }
-{
-    let Some(models) = list_at(schema, "models") else {
-        return false;
-    };
-    let Some(model) = only_item(models) else {
-        return false;
-    };
-    model.get("belongs_to").is_none() && model.get("has_many").is_none()
-}
-
-/// Whether each change of a commit creates. What is no array has none.
-fn all_create(commit: &Value) -> bool
-    ensures { result ≡ all_create (get (codes "changes") (view commit.now)) }
-{
-    match commit.get("changes").and_then(Value::as_array) {
-        Some(changes) => each_creates(changes.as_slice()),
-        None => true,
-    }
-}
-
-fn each_creates(changes: &[Value]) -> bool
-    ensures { result ≡ each_creates (items_view changes.now) }
-{
-    let mut rest = changes;
-    while let [change, more @ ..] = rest {
-        if change.get("create").is_none() {
-            return false;
-        }
-        rest = more;
-    }
-    true
-}
-
-/// Whether each commit has a moment and changes that create.
-fn each_commit_creates(commits: &[Value]) -> bool
-    ensures { result ≡ each_commit_creates (items_view commits.now) }
-{
-    let mut rest = commits;
-    while let [commit, more @ ..] = rest {
-        if commit.get("at").is_none() {
-            return false;
-        }
-        if !all_create(commit) {
-            return false;
-        }
-        rest = more;
-    }
-    true
-}
-
-/// Whether the commits that there are create. What is no array has none.
-fn commits_create(commits: &Value) -> bool
-    ensures { result ≡ commits_create (view commits.now) }
-{
-    match commits.as_array() {
-        Some(commits) => each_commit_creates(commits.as_slice()),
-        None => true,
-    }
 }
 
 /// What a route names.
@@ -167,12 +102,6 @@ pub fn parts_of(bundle: &Value) -> Option<Parts<'_>>
     let source = source_of(route.template, object_at(bundle, "views")?)?;
     let commits = bundle.get("commits")?;
     if !has_only(bundle, &["schema", "routes", "views", "commits"]) {
-        return None;
-    }
-    if !has_plain_model(schema) {
-        return None;
-    }
-    if !commits_create(commits) {
         return None;
     }
     Some(Parts {

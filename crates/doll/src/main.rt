@@ -1,7 +1,6 @@
 //! The program: a site's bundle comes on standard input, and the page of a path goes to standard output.
 #![tactic(auto)]
 
-mod create;
 mod first_form;
 mod past;
 mod path;

@@ -1,39 +1,37 @@
-//! The records that the commits of a bundle create.
+//! The history that the commits of a bundle make, and the records that it leaves.
 
-ghost use Rattle.std.specs.Prelude.{◌≡◌, ◌<◌, ◌≤◌, ◌+◌, ◌^◌, length, option_map, Ok, IfOk, OnOk};
+ghost use Rattle.std.specs.Prelude.{◌≡◌, ◌+◌, ◌<◌, [], length, slice_index, IfOk, IfSome};
 ghost use Rattle.serde_json.specs.View.{items_view, view};
+ghost use Rattle.doll_base.specs.Streams.{Appended};
 ghost use Rattle.doll_expr.specs.Gives.{Gives};
-ghost use Rattle.doll_table.specs.Tables.{next_of, empty_table};
-ghost use Rattle.doll.specs.Creates.{with_created, moment_of};
-ghost use Rattle.doll.specs.Pasts.{created, changed, all_changed, commit_made, commit_refusal, or_refusal, commit_form, committed, commit_result, commits_from, table_in};
+ghost use Rattle.doll_table.specs.Fits.{Fits};
+ghost use Rattle.doll.specs.Pasts.{is_untimed, time_in, asked_in, untimed, why_kind, commit_refusal, recorded, commit_result, commits_from, all_recorded, taken_by};
+ghost use Rattle.doll_journal.specs.Storable.{AreStorable};
+ghost use Rattle.doll.specs.Timed.{ReadsClock, GivesHistory};
 
-use crate::create::{created_row, creation_fault};
 use crate::refusal::{BundlePart, Kind, Refusal};
-use doll_expr::{Memory, Name};
-use doll_journal::{Change, Changes, Given, changes_of};
+use doll_base::Clock;
+use doll_commit::Why;
+use doll_expr::{Copied, Memory};
+use doll_journal::{Changes, changes_of};
+use doll_keep::MemKeeper;
+use doll_records::{RecordFault, Records, SharedTable};
+use doll_schema::Schema;
 use doll_schema::json::{has_only, whole_at};
-use doll_schema::{Model, Row, Schema};
-use doll_table::Table;
 use serde_json::Value;
 use std::alloc::Global;
 
-/// The most changes of a commit.
-const MOST_CHANGES: usize = 1000;
+/// The author of a bundle's commits.
+const AUTHOR: u32 = 0;
 
-/// The latest time that counts, in microseconds: 2^62.
-const LATEST: u64 = 4_611_686_018_427_387_904;
-
-/// The moment after which there is none: 2^63 - 1.
-const LAST_MOMENT: u64 = 9_223_372_036_854_775_807;
-
-/// The records so far, and the moment of the last commit, 0 before the first.
+/// What a commit of a bundle asks for: its changes, and a time where it says one.
 #[derive(Drop)]
-pub struct Past {
-    pub table: Table,
-    pub last: u64,
+struct Asked {
+    time: Option<u64>,
+    changes: Changes,
 }
 
-fn commit_refusal(number: u64, kind: Kind) -> Refusal
+pub fn commit_refusal(number: u64, kind: Kind) -> Refusal
     ensures { result ≡ commit_refusal number kind }
 {
     Refusal::Refused {
@@ -43,189 +41,193 @@ fn commit_refusal(number: u64, kind: Kind) -> Refusal
     }
 }
 
-/// The table with the record under the next id of the one model.
-fn with_created(mut table: Table, row: Row) -> Result<Table, Memory>
-    requires model { 0 < length table.schema.models }
-    requires id { next_of table 0 < 4294967295 }
-    ensures { IfOk result (λ grown. grown ≡ with_created table row) }
+/// A refused change's reason as the bundle's.
+fn why_kind(why: Why) -> Kind
+    ensures { result ≡ why_kind why }
 {
-    let id = table.next(0);
-    table.put(0, id, row)?;
-    table.set_next(0, id + 1);
-    Ok(table)
-}
-
-/// Makes a creation.
-fn created(
-    alloc: Global,
-    model: &Model,
-    number: u64,
-    moment: u64,
-    table: Table,
-    name: &Name,
-    given: &Given,
-) -> Result<Table, Refusal>
-    requires { 0 < length table.schema.models }
-    ensures exact { Gives Refusal.Memory (or_refusal number (created model.now moment table name.now given.now)) result }
-    ensures schema { IfOk result (λ next. next.schema ≡ table.schema) }
-{
-    match creation_fault(model, table.next(0), name, given.as_slice()) {
-        Some(fault) => Err(commit_refusal(number, fault)),
-        None => {
-            let row = created_row(alloc, model, given.as_slice(), moment)?;
-            Ok(with_created(table, row)?)
-        }
+    match why {
+        Why::UnknownModel => Kind::UnknownModel,
+        Why::UnknownAttribute => Kind::UnknownAttribute,
+        Why::WrongKind => Kind::WrongKind,
+        Why::NullRefused => Kind::NullRefused,
+        Why::MissingRow => Kind::MissingRow,
+        Why::BadParent => Kind::BadParent,
+        Why::Restricted => Kind::Restricted,
+        Why::IdsEnded => Kind::IdsEnded,
+        Why::TooManyChanges => Kind::TooManyChanges,
     }
 }
 
-/// Makes a change that creates. Others aren't made yet.
-fn changed(
-    alloc: Global,
-    model: &Model,
-    number: u64,
-    moment: u64,
-    table: Table,
-    change: &Change,
-) -> Result<Table, Refusal>
-    requires { 0 < length table.schema.models }
-    ensures exact { Gives Refusal.Memory (or_refusal number (changed model.now moment table change.now)) result }
-    ensures schema { IfOk result (λ next. next.schema ≡ table.schema) }
+/// Whether a commit says no time.
+fn is_untimed(commit: &Value) -> bool
+    ensures { result ≡ is_untimed (view commit.now) }
 {
-    match change {
-        Change::Create {
-            model: name,
-            values,
-        } => created(alloc, model, number, moment, table, name, values),
-        _ => Err(commit_refusal(number, Kind::UnknownModel)),
+    commit.get("at").is_none()
+}
+
+/// The time that a commit says, if it says one.
+fn time_in(commit: &Value) -> Option<Option<u64>>
+    ensures { result ≡ time_in (view commit.now) }
+{
+    if is_untimed(commit) {
+        return Some(None);
+    }
+    match whole_at(commit, "at") {
+        Some(time) => Some(Some(time)),
+        None => None,
     }
 }
 
-/// Makes changes in order, up to the first fault.
-#[tactic(auto, using(crate::proofs::Steps::refusal_goes_on, crate::proofs::Steps::refusal_stops, crate::proofs::Steps::step_goes_on, crate::proofs::Steps::step_stops))]
-fn all_changed(
-    alloc: Global,
-    model: &Model,
-    number: u64,
-    moment: u64,
-    mut table: Table,
-    changes: &[Change],
-) -> Result<Table, Refusal>
-    requires { 0 < length table.schema.models }
-    ensures exact { Gives Refusal.Memory (or_refusal number (all_changed model.now moment table changes.now)) result }
-    ensures schema { IfOk result (λ next. next.schema ≡ table.schema) }
-{
-    let mut rest = changes;
-    while let [change, more @ ..] = rest {
-        table = changed(alloc, model, number, moment, table, change)?;
-        rest = more;
-    }
-    Ok(table)
-}
-
-/// Makes a commit after the others.
-#[tactic(auto, using(crate::proofs::Steps::refusal_goes_on, crate::proofs::Steps::refusal_stops, crate::proofs::Steps::step_goes_on, crate::proofs::Steps::step_stops))]
-fn committed(
-    alloc: Global,
-    model: &Model,
-    number: u64,
-    past: Past,
-    at: u64,
-    changes: &Changes,
-) -> Result<Past, Refusal>
-    requires { 0 < length past.table.schema.models }
-    ensures exact { Gives Refusal.Memory (or_refusal number (committed model.now past (at, changes.now))) result }
-    ensures schema { IfOk result (λ next. next.table.schema ≡ past.table.schema) }
-{
-    let Past { table, last } = past;
-    if last >= LAST_MOMENT {
-        return Err(commit_refusal(number, Kind::MomentsEnded));
-    }
-    let moment = at.min(LATEST).max(last + 1);
-    if changes.len() > MOST_CHANGES {
-        return Err(commit_refusal(number, Kind::TooManyChanges));
-    }
-    let table = all_changed(alloc, model, number, moment, table, changes.as_slice())?;
-    Ok(Past {
-        table,
-        last: moment,
-    })
-}
-
-/// What a commit of the bundle holds: the time that it is asked for at, and its changes.
-fn commit_form(alloc: Global, commit: &Value) -> Result<Option<(u64, Changes)>, Memory>
-    ensures { IfOk result (λ form. form ≡ commit_form (view commit.now)) }
+/// What a commit asks for, if it is of the form.
+fn asked_in(alloc: Global, commit: &Value) -> Result<Option<Asked>, Memory>
+    ensures exact { IfOk result (λ asked. asked ≡ asked_in (view commit.now)) }
+    ensures storable { IfOk result (λ asked. IfSome asked (λ form. AreStorable form.changes)) }
 {
     if !has_only(commit, &["at", "changes"]) {
         return Ok(None);
     }
-    let Some(at) = whole_at(commit, "at") else {
+    let Some(time) = time_in(commit) else {
         return Ok(None);
     };
     let Some(changes) = commit.get("changes") else {
         return Ok(None);
     };
     match changes_of(alloc, changes)? {
-        Some(changes) => Ok(Some((at, changes))),
+        Some(changes) => Ok(Some(Asked { time, changes })),
         None => Ok(None),
     }
 }
 
-/// Makes the commit with a number, if it is of the form.
-#[tactic(auto, using(crate::proofs::Steps::refusal_goes_on, crate::proofs::Steps::refusal_stops, crate::proofs::Steps::step_goes_on, crate::proofs::Steps::step_stops))]
-fn next_past(
+/// Reads the clock once for each commit that says no time.
+#[tactic(auto, using(crate::proofs::Readings::appended_more, crate::proofs::Readings::reads_more))]
+pub fn readings<C: Clock>(
     alloc: Global,
-    model: &Model,
-    number: u64,
-    past: Past,
-    commit: &Value,
-) -> Result<Past, Refusal>
-    requires { 0 < length past.table.schema.models }
-    ensures exact { Gives Refusal.Memory (commit_result model.now number past (view commit.now)) result }
-    ensures schema { IfOk result (λ next. next.table.schema ≡ past.table.schema) }
+    clock: &mut C,
+    commits: &[Value],
+) -> Result<Vec<u64>, Memory>
+    ensures taken { IfOk result (λ readings. Appended (C.readings clock.old) (C.readings clock.new) readings.items) }
+    ensures count { IfOk result (λ readings. length readings.items ≡ untimed (items_view commits.now)) }
+    ensures reads { ReadsClock (C.readings clock.old) (C.readings clock.new) }
 {
-    let Some((at, changes)) = commit_form(alloc, commit)? else {
-        return Err(commit_refusal(number, Kind::BadForm));
-    };
-    committed(alloc, model, number, past, at, &changes)
+    let mut readings = Vec::new(alloc);
+    let mut rest = commits;
+    while let [commit, more @ ..] = rest {
+        if is_untimed(commit) {
+            readings.push(clock.now())?;
+        }
+        rest = more;
+    }
+    Ok(readings)
 }
 
-/// The records after these commits.
-#[tactic(auto, using(crate::proofs::Steps::refusal_goes_on, crate::proofs::Steps::refusal_stops, crate::proofs::Steps::step_goes_on, crate::proofs::Steps::step_stops))]
-fn commits_from(
+/// Records a commit after the others.
+fn recorded(
     alloc: Global,
-    model: &Model,
-    mut past: Past,
+    records: &mut Records<MemKeeper>,
+    number: u64,
+    time: u64,
+    changes: Changes,
+) -> Result<(), Refusal>
+    requires { AreStorable changes }
+    ensures exact { GivesHistory Refusal.Memory (recorded records.old.schema records.old.history number time changes) records.new.history result }
+    ensures schema { records.new.schema ≡ records.old.schema }
+{
+    match records.commit(alloc, AUTHOR, number, changes, time) {
+        Ok(_) => Ok(()),
+        Err(RecordFault::HistoryFull { .. }) => Err(commit_refusal(number, Kind::HistoryFull)),
+        Err(RecordFault::MomentsEnded { .. }) => Err(commit_refusal(number, Kind::MomentsEnded)),
+        Err(RecordFault::Refused { why, .. }) => Err(commit_refusal(number, why_kind(why))),
+        // This keeper was made to fail at no call.
+        Err(RecordFault::Kept) => Err(Refusal::Memory),
+        Err(RecordFault::Memory) => Err(Refusal::Memory),
+    }
+}
+
+/// Records the commit with a number, if it is of the form; at the clock's reading, where it says no time.
+#[tactic(auto, unfolding(crate::specs::Pasts::commit_result))]
+fn record_next(
+    alloc: Global,
+    records: &mut Records<MemKeeper>,
+    number: u64,
+    reading: u64,
+    commit: &Value,
+) -> Result<(), Refusal>
+    ensures exact { GivesHistory Refusal.Memory (commit_result records.old.schema records.old.history number reading (view commit.now)) records.new.history result }
+    ensures schema { records.new.schema ≡ records.old.schema }
+{
+    match asked_in(alloc, commit)? {
+        Some(asked) => {
+            let time = asked.time.unwrap_or(reading);
+            recorded(alloc, records, number, time, asked.changes)
+        }
+        None => Err(commit_refusal(number, Kind::BadForm)),
+    }
+}
+
+/// How many readings a commit takes: one where it says no time.
+fn taken_by(commit: &Value) -> usize
+    ensures { result ≡ taken_by (view commit.now) }
+{
+    if is_untimed(commit) { 1 } else { 0 }
+}
+
+/// The reading with a number, 0 where there is none.
+fn reading_at(readings: &[u64], at: usize) -> u64
+    ensures { result ≡ slice_index readings.now at }
+{
+    match readings.get(at) {
+        Some(reading) => *reading,
+        None => 0,
+    }
+}
+
+/// Records these commits, one after another.
+#[tactic(auto, using(crate::proofs::Made::step_goes_on, crate::proofs::Made::step_stops, crate::proofs::Made::taken_one))]
+fn record_all(
+    alloc: Global,
+    records: &mut Records<MemKeeper>,
+    readings: &[u64],
     commits: &[Value],
-) -> Result<Past, Refusal>
-    requires { 0 < length past.table.schema.models }
-    ensures { Gives Refusal.Memory (commits_from model.now 0 past (items_view commits.now)) result }
+) -> Result<(), Refusal>
+    ensures exact { GivesHistory Refusal.Memory (commits_from records.old.schema records.old.history 0 readings.now 0 (items_view commits.now)) records.new.history result }
+    ensures schema { records.new.schema ≡ records.old.schema }
 {
     let mut rest = commits;
     let mut number = 0;
+    let mut taken = 0;
     while let [commit, more @ ..] = rest {
-        past = next_past(alloc, model, number, past, commit)?;
+        record_next(alloc, records, number, reading_at(readings, taken), commit)?;
+        taken += taken_by(commit);
         rest = more;
         number += 1;
     }
-    Ok(past)
+    Ok(())
 }
 
-/// The records after the commits of a bundle.
-pub fn table_in(
+/// No records, behind a keeper in memory that fails at no call.
+fn no_records(alloc: Global, schema: &Schema) -> Result<Records<MemKeeper>, Memory>
+    ensures history { IfOk result (λ records. records.history ≡ []) }
+    ensures schema { IfOk result (λ records. records.schema ≡ schema.now) }
+{
+    let keeper = MemKeeper::new(alloc, Vec::new(alloc), None);
+    match Records::open(alloc, keeper, schema.copy(alloc)?) {
+        Ok(records) => Ok(records),
+        Err(_) => Err(Memory),
+    }
+}
+
+/// The records that these commits leave, made one after another.
+pub fn table_after(
     alloc: Global,
     schema: &Schema,
-    model: &Model,
-    commits: &Value,
-) -> Result<Past, Refusal>
-    requires { 0 < length schema.now.models }
-    ensures { Gives Refusal.Memory (table_in schema.now model.now (view commits.now)) result }
+    readings: &[u64],
+    commits: &[Value],
+) -> Result<SharedTable, Refusal>
+    ensures exact { Gives Refusal.Memory (all_recorded schema.now readings.now (items_view commits.now)) result }
+    ensures fits { IfOk result (λ table. Fits schema.now table) }
 {
-    let Some(commits) = commits.as_array() else {
-        return Err(commit_refusal(0, Kind::BadForm));
-    };
-    let past = Past {
-        table: Table::empty(alloc, schema)?,
-        last: 0,
-    };
-    commits_from(alloc, model, past, commits.as_slice())
+    let mut records = no_records(alloc, schema)?;
+    record_all(alloc, &mut records, readings, commits)?;
+    let snapshot = records.snapshot(alloc)?;
+    Ok(snapshot.table)
 }

@@ -31,9 +31,13 @@ pub enum Kind {
     UnknownAttribute,
     WrongKind,
     NullRefused,
+    MissingRow,
+    BadParent,
+    Restricted,
     IdsEnded,
     TooManyChanges,
     MomentsEnded,
+    HistoryFull,
 }
 
 impl BundlePart {
@@ -69,9 +73,13 @@ impl Kind {
             Kind::UnknownAttribute => "UnknownAttribute",
             Kind::WrongKind => "WrongKind",
             Kind::NullRefused => "NullRefused",
+            Kind::MissingRow => "MissingRow",
+            Kind::BadParent => "BadParent",
+            Kind::Restricted => "Restricted",
             Kind::IdsEnded => "IdsEnded",
             Kind::TooManyChanges => "TooManyChanges",
             Kind::MomentsEnded => "MomentsEnded",
+            Kind::HistoryFull => "HistoryFull",
         }
     }
 }

@@ -3,13 +3,15 @@
 ghost use Rattle.std.specs.Prelude.{◌≡◌, ◌≤◌, map, codes, length, string_bytes, option_map, IfOk, IsSome};
 ghost use Rattle.doll_table.specs.Fits.{Fits};
 ghost use Rattle.doll_table.specs.Tables.{row_of};
-ghost use Rattle.doll.specs.Sites.{site_of};
+ghost use Rattle.doll.specs.Sites.{site_of, readings_for};
+ghost use Rattle.doll.specs.Timed.{AnswersTimed};
 ghost use Rattle.doll.specs.Refusals.{refusal_line};
 ghost use Rattle.doll.specs.Replies.{usage, too_long, not_built, unknown, line, living, page_of, page_reply, site_reply, plain_reply, plain_path, IsAnswer};
 
 use crate::path::requested_id;
 use crate::refusal::{BundlePart, Kind, Refusal};
 use crate::site::{Site, site_of};
+use doll_base::Clock;
 use doll_expr::{Bytes, Copied, Items, Memory, Name};
 use doll_plain::page;
 use doll_schema::{Val, Vars};
@@ -103,7 +105,7 @@ fn living(site: &Site, id: Option<u32>) -> Option<u32>
     ensures { result ≡ living site.now id }
 {
     let id = id?;
-    if site.table.row(0, id).is_some() {
+    if site.table.as_table().row(site.pages.model, id).is_some() {
         Some(id)
     } else {
         None
@@ -112,23 +114,28 @@ fn living(site: &Site, id: Option<u32>) -> Option<u32>
 
 /// The page of a record that lives.
 fn page_of(alloc: Global, site: &Site, id: u32) -> Result<Bytes, Memory>
-    requires fits { Fits site.now.schema site.now.table }
-    requires lives { IsSome (row_of site.now.table 0 id) }
+    requires fits { Fits site.now.pages.schema site.now.table }
+    requires lives { IsSome (row_of site.now.table site.now.pages.model id) }
     ensures { IfOk result (λ bytes. bytes ≡ page_of site.now id) }
 {
+    let pages = &site.pages;
     let mut vars: Vars = Items::new(alloc);
-    vars.push((site.owner.copy(alloc)?, Val::Record { model: 0, id }))?;
-    let mut rows = Looking::new(&site.table);
-    page(alloc, &site.tree, vars, &site.schema, &mut rows)
+    let record = Val::Record {
+        model: pages.model,
+        id,
+    };
+    vars.push((pages.owner.copy(alloc)?, record))?;
+    let mut rows = Looking::new(site.table.as_table());
+    page(alloc, &pages.tree, vars, &pages.schema, &mut rows)
 }
 
 /// The page of a path, where its record lives.
 fn page_reply(alloc: Global, site: &Site, path: &[u8]) -> Result<Reply, Memory>
-    requires { Fits site.now.schema site.now.table }
+    requires { Fits site.now.pages.schema site.now.table }
     ensures value { IfOk result (λ reply. reply ≡ page_reply site.now path.now) }
     ensures status { IfOk result (λ reply. IsAnswer reply.status) }
 {
-    match living(site, requested_id(site.path.as_bytes(), path)) {
+    match living(site, requested_id(site.pages.path.as_bytes(), path)) {
         Some(id) => Ok(Reply {
             status: 0,
             text: page_of(alloc, site, id)?,
@@ -138,12 +145,17 @@ fn page_reply(alloc: Global, site: &Site, path: &[u8]) -> Result<Reply, Memory>
 }
 
 /// The reply to `plain PATH` for an input of at most 16,777,216 bytes.
-pub fn plain_reply(alloc: Global, path: &[u8], input: &[u8]) -> Result<Reply, Memory>
+pub fn plain_reply<C: Clock>(
+    alloc: Global,
+    path: &[u8],
+    input: &[u8],
+    clock: &mut C,
+) -> Result<Reply, Memory>
     requires { length input.now ≤ 16777216 }
-    ensures value { IfOk result (λ reply. reply ≡ plain_reply path.now input.now) }
+    ensures value { AnswersTimed (readings_for input.now) (plain_reply path.now input.now) (C.readings clock.old) (C.readings clock.new) result }
     ensures status { IfOk result (λ reply. IsAnswer reply.status) }
 {
-    match site_of(alloc, input) {
+    match site_of(alloc, input, clock) {
         Ok(site) => page_reply(alloc, &site, path),
         Err(Refusal::Refused { part, number, kind }) => refused(alloc, part, number, kind),
         Err(Refusal::NotBuilt) => not_built(alloc),

@@ -1,24 +1,29 @@
 //! The site that a bundle describes.
 
-ghost use Rattle.std.specs.Prelude.{◌≡◌, ◌≢◌, ◌<◌, ◌≤◌, length, option_map, slice_get, Ok, Err, Some, IfOk, MatchResult};
+ghost use Rattle.std.specs.Prelude.{◌≡◌, ◌≢◌, ◌<◌, ◌≤◌, length, option_map, bytes_eq, position, Ok, Err, IfOk, MatchResult};
 ghost use Rattle.std.specs.Option.{ok_or};
-ghost use Rattle.serde_json.specs.View.{view};
+ghost use Rattle.serde_json.specs.View.{items_view, view};
 ghost use Rattle.doll_expr.specs.Gives.{Gives};
+ghost use Rattle.doll_table.specs.Fits.{Fits};
 ghost use Rattle.doll_schema.specs.Schemas.{schema_of};
 ghost use Rattle.doll.specs.Seen.{seen_parts};
 ghost use Rattle.doll.specs.FirstForms.{parts_of};
 ghost use Rattle.doll.specs.declared.refusal.Refusal.TheVariants as refusals;
-ghost use Rattle.doll.specs.Sites.{json_of, schema_refusal, or_schema_refusal, route_refusal, route_path, route_model, source_in, tree_in, site_in, site_of};
+ghost use Rattle.doll_schema.specs.declared.model.Model.{Model};
+ghost use Rattle.doll.specs.Pasts.{commits_in, untimed};
+ghost use Rattle.doll.specs.Sites.{json_of, schema_refusal, or_schema_refusal, route_refusal, route_path, route_name, model_number, model_named, source_in, tree_in, pages_in, with_commits, site_of_pages, untimed_in, site_in, readings_in, parts_of_json, readings_by, site_by, site_of, readings_for};
+ghost use Rattle.doll.specs.Timed.{GivesTimed};
 
 use crate::first_form::{Parts, parts_of};
-use crate::past::{Past, table_in};
+use crate::past::{commit_refusal, readings, table_after};
 use crate::path::{is_virtual_path, record_path};
 use crate::refusal::{BundlePart, Kind, Refusal};
 use crate::standing::tree_alone;
+use doll_base::Clock;
 use doll_erb::{ErbFault, Tree, parse_template};
 use doll_expr::{Memory, Name};
-use doll_schema::{Model, Schema, SchemaFault};
-use doll_table::Table;
+use doll_records::SharedTable;
+use doll_schema::{Schema, SchemaFault};
 use serde_json::Value;
 use std::alloc::Global;
 
@@ -28,16 +33,24 @@ const LONGEST_VIRTUAL_PATH: usize = 191;
 /// The longest source of a view, in bytes.
 const LONGEST_SOURCE: usize = 262_144;
 
-/// A site of one record's page.
+/// The pages of a site: those of one record.
 #[derive(Drop)]
-pub struct Site {
+pub struct Pages {
     /// The path before the record's id.
     pub path: Name,
+    /// The number of the record's model.
+    pub model: u16,
     /// The name of the record's model, and of the variable.
     pub owner: Name,
     pub tree: Tree,
     pub schema: Schema,
-    pub table: Table,
+}
+
+/// A site: its pages and its records.
+#[derive(Drop)]
+pub struct Site {
+    pub pages: Pages,
+    pub table: SharedTable,
 }
 
 /// A schema's fault as the bundle's.
@@ -99,23 +112,44 @@ fn route_path<'a>(parts: &Parts<'a>) -> Result<&'a [u8], Refusal>
     }
 }
 
-/// The one model, if it has the route's name.
-fn route_model<'a>(parts: &Parts<'_>, schema: &'a Schema) -> Result<&'a Model, Refusal>
-    ensures exact { MatchResult result (λ model. route_model (seen_parts parts.now) schema.now ≡ Ok model.now) (λ why. route_model (seen_parts parts.now) schema.now ≡ Err why) }
-    ensures first { IfOk result (λ model. slice_get schema.now.models 0 ≡ Some model.now) }
+/// Where the model stands that has a name.
+fn model_at(schema: &Schema, name: &[u8]) -> Option<usize>
+    ensures { result ≡ position (λ (m : Model). bytes_eq m.name name.now) schema.now.models }
 {
-    let Some(name) = parts.owner.as_str() else {
-        return Err(route_refusal(Kind::BadForm));
-    };
-    match schema.models.as_slice() {
-        [model, ..] => {
-            if model.name.as_bytes() == name.as_bytes() {
-                Ok(model)
-            } else {
-                Err(route_refusal(Kind::UnknownModel))
-            }
-        }
-        [] => Err(route_refusal(Kind::UnknownModel)),
+    schema
+        .models
+        .as_slice()
+        .iter()
+        .position(|model| model.name.as_bytes() == name)
+}
+
+/// The number of the model that has a name. Numbers have 16 bits.
+fn model_number(schema: &Schema, name: &[u8]) -> Option<u16>
+    ensures { result ≡ model_number schema.now name.now }
+{
+    match model_at(schema, name) {
+        Some(at) if at < 65_536 => Some(at as u16),
+        _ => None,
+    }
+}
+
+/// The number of the model that the route names.
+fn model_named(schema: &Schema, name: &str) -> Result<u16, Refusal>
+    ensures { result ≡ model_named schema.now name.now }
+{
+    match model_number(schema, name.as_bytes()) {
+        Some(model) => Ok(model),
+        None => Err(route_refusal(Kind::UnknownModel)),
+    }
+}
+
+/// The name that a route names its model by.
+fn route_name<'a>(parts: &Parts<'a>) -> Result<&'a str, Refusal>
+    ensures { MatchResult result (λ name. route_name (seen_parts parts.now) ≡ Ok name.now) (λ why. route_name (seen_parts parts.now) ≡ Err why) }
+{
+    match parts.owner.as_str() {
+        Some(name) => Ok(name),
+        None => Err(route_refusal(Kind::BadForm)),
     }
 }
 
@@ -160,25 +194,103 @@ fn tree_in(alloc: Global, text: &str) -> Result<Tree, Refusal>
     }
 }
 
-/// The site of a bundle's parts: schema, route, view, template and commits in turn.
-fn site_in(alloc: Global, parts: &Parts<'_>) -> Result<Site, Refusal>
-    ensures { Gives Refusal.Memory (site_in (seen_parts parts.now)) result }
+/// The pages of a bundle's parts: schema, route, view and template in turn.
+#[tactic(auto, unfolding(crate::specs::Sites::pages_in))]
+fn pages_in(alloc: Global, parts: &Parts<'_>) -> Result<Pages, Refusal>
+    ensures { Gives Refusal.Memory (pages_in (seen_parts parts.now)) result }
 {
     let schema = schema_in(alloc, parts.schema)?;
     let path = route_path(parts)?;
-    let model = route_model(parts, &schema)?;
+    let owner = route_name(parts)?;
+    let model = model_named(&schema, owner)?;
     let tree = tree_in(alloc, source_in(parts.source)?)?;
-    let past = table_in(alloc, &schema, model, parts.commits)?;
     let path = Name::from_bytes(alloc, path)?;
-    let owner = model.name.copy(alloc)?;
-    let Past { table, last: _ } = past;
-    Ok(Site {
+    let owner = Name::from_bytes(alloc, owner.as_bytes())?;
+    Ok(Pages {
         path,
+        model,
         owner,
         tree,
         schema,
-        table,
     })
+}
+
+/// The array of a bundle's commits.
+fn commits_in(commits: &Value) -> Result<&[Value], Refusal>
+    ensures { MatchResult result (λ items. commits_in (view commits.now) ≡ Ok (items_view items.now)) (λ why. commits_in (view commits.now) ≡ Err why) }
+{
+    match commits.as_array() {
+        Some(commits) => Ok(commits.as_slice()),
+        None => Err(commit_refusal(0, Kind::BadForm)),
+    }
+}
+
+/// The site of pages, with the records that commits leave.
+fn with_commits(
+    alloc: Global,
+    pages: Pages,
+    readings: &[u64],
+    commits: &[Value],
+) -> Result<Site, Refusal>
+    ensures exact { Gives Refusal.Memory (with_commits pages readings.now (items_view commits.now)) result }
+    ensures fits { IfOk result (λ site. Fits site.pages.schema site.table) }
+{
+    let table = table_after(alloc, &pages.schema, readings, commits)?;
+    Ok(Site { pages, table })
+}
+
+/// The same, with one reading of the clock for each commit that says no time.
+fn with_readings<C: Clock>(
+    alloc: Global,
+    pages: Pages,
+    commits: &[Value],
+    clock: &mut C,
+) -> Result<Site, Refusal>
+    ensures exact { GivesTimed Refusal.Memory (untimed (items_view commits.now)) (λ readings. with_commits pages readings (items_view commits.now)) (C.readings clock.old) (C.readings clock.new) result }
+    ensures fits { IfOk result (λ site. Fits site.pages.schema site.table) }
+{
+    match readings(alloc, clock, commits) {
+        Ok(readings) => with_commits(alloc, pages, readings.as_slice(), commits),
+        Err(_) => Err(Refusal::Memory),
+    }
+}
+
+/// The same, where the commits are an array.
+fn site_of_pages<C: Clock>(
+    alloc: Global,
+    pages: Pages,
+    commits: &Value,
+    clock: &mut C,
+) -> Result<Site, Refusal>
+    ensures exact { GivesTimed Refusal.Memory (untimed_in (view commits.now)) (λ readings. site_of_pages readings (view commits.now) pages) (C.readings clock.old) (C.readings clock.new) result }
+    ensures fits { IfOk result (λ site. Fits site.pages.schema site.table) }
+{
+    match commits_in(commits) {
+        Ok(commits) => with_readings(alloc, pages, commits, clock),
+        Err(why) => Err(why),
+    }
+}
+
+/// The site of a bundle's parts.
+fn site_in<C: Clock>(alloc: Global, parts: &Parts<'_>, clock: &mut C) -> Result<Site, Refusal>
+    ensures exact { GivesTimed Refusal.Memory (readings_in (seen_parts parts.now)) (site_in (seen_parts parts.now)) (C.readings clock.old) (C.readings clock.new) result }
+    ensures fits { IfOk result (λ site. Fits site.pages.schema site.table) }
+{
+    match pages_in(alloc, parts) {
+        Ok(pages) => site_of_pages(alloc, pages, parts.commits, clock),
+        Err(why) => Err(why),
+    }
+}
+
+/// The site of a bundle's JSON value, if it is of the form.
+fn site_of_json<C: Clock>(alloc: Global, json: &Value, clock: &mut C) -> Result<Site, Refusal>
+    ensures exact { GivesTimed Refusal.Memory (readings_by (parts_of_json (view json.now))) (site_by (parts_of_json (view json.now))) (C.readings clock.old) (C.readings clock.new) result }
+    ensures fits { IfOk result (λ site. Fits site.pages.schema site.table) }
+{
+    match parts_of(json) {
+        Some(parts) => site_in(alloc, &parts, clock),
+        None => Err(Refusal::NotBuilt),
+    }
 }
 
 /// The JSON value that the bytes are.
@@ -197,19 +309,18 @@ fn json_of(alloc: Global, bytes: &[u8]) -> Result<Option<Value>, Memory>
     }
 }
 
-/// The site of a bundle's bytes.
-pub fn site_of(alloc: Global, bytes: &[u8]) -> Result<Site, Refusal>
-    ensures { Gives Refusal.Memory (site_of bytes.now) result }
+/// The site of a bundle's bytes. The clock is read once for each commit that says no time.
+pub fn site_of<C: Clock>(alloc: Global, bytes: &[u8], clock: &mut C) -> Result<Site, Refusal>
+    ensures exact { GivesTimed Refusal.Memory (readings_for bytes.now) (site_of bytes.now) (C.readings clock.old) (C.readings clock.new) result }
+    ensures fits { IfOk result (λ site. Fits site.pages.schema site.table) }
 {
-    let Some(json) = json_of(alloc, bytes)? else {
-        return Err(Refusal::Refused {
+    match json_of(alloc, bytes) {
+        Ok(Some(json)) => site_of_json(alloc, &json, clock),
+        Ok(None) => Err(Refusal::Refused {
             part: BundlePart::Json,
             number: 0,
             kind: Kind::BadForm,
-        });
-    };
-    let Some(parts) = parts_of(&json) else {
-        return Err(Refusal::NotBuilt);
-    };
-    site_in(alloc, &parts)
+        }),
+        Err(_) => Err(Refusal::Memory),
+    }
 }

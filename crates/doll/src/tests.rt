@@ -40,7 +40,7 @@ fn answer(
     let bytes = Vec::from_slice(alloc, bundle.as_bytes())?;
     let mut source = MemSource::new(bytes, 7, Vec::from_slice(alloc, failing_reads)?);
     let mut sink = MemSink::new(alloc, 5, Vec::from_slice(alloc, failing_writes)?);
-    let mut clock = ListClock::new(Vec::new(alloc));
+    let mut clock = ListClock::new(Vec::from_slice(alloc, &[77])?);
     let status = run_tool(
         alloc,
         owned.as_slice(),
@@ -104,6 +104,103 @@ fn pages_of_templates(rt: HostRuntime) -> Result<(), Fail> {
         let (ended, held) = answer(&rt, &["plain", "/products/1"], bundle.as_str(), &[], &[])?;
         assert_eq!(rt; ended, *status, "at {template}");
         assert_eq!(rt; held.as_slice(), text.as_bytes(), "at {template}");
+    }
+    Ok(())
+}
+
+const SHOP: &str =
+    "{\"name\":\"product\",\"plural\":\"products\",\"attributes\":[{\"name\":\"name\",\"kind\":\"text\"}],\"has_many\":[{\"name\":\"games\",\"model\":\"game\",\"inverse\":\"product\",\"dependent\":\"destroy\"}]},{\"name\":\"game\",\"plural\":\"games\",\"attributes\":[{\"name\":\"name\",\"kind\":\"text\"}],\"belongs_to\":[{\"name\":\"product\",\"model\":\"product\",\"touch\":true}]}";
+
+const FORUM: &str =
+    "{\"name\":\"comment\",\"plural\":\"comments\",\"attributes\":[{\"name\":\"body\",\"kind\":\"text\"}],\"belongs_to\":[{\"name\":\"parent\",\"model\":\"comment\",\"touch\":true,\"null\":true}],\"has_many\":[{\"name\":\"replies\",\"model\":\"comment\",\"inverse\":\"parent\"}]}";
+
+/// The pieces of a bundle, round its models, the record's model, the template and the commits.
+const PIECES: [&str; 5] = [
+    "{\"schema\":{\"models\":[",
+    "]},\"routes\":[{\"path\":\"/things/:id\",\"template\":\"thing\",\"record\":\"",
+    "\"}],\"views\":{\"thing.html.erb\":\"",
+    "\"},\"commits\":",
+    "}",
+];
+
+/// The models, the model of the record with the id 1, the template and the commits as they stand in JSON, the status, and
+/// the page or the line.
+const HISTORIES: [(&str, &str, &str, &str, u8, &str); 8] = [
+    (
+        FORUM,
+        "comment",
+        "[<%= comment.parent.body %>][<%= comment.parent_id.nil? %>]",
+        "[{\"at\":10,\"changes\":[{\"create\":\"comment\",\"values\":{\"body\":\"c\"}}]}]",
+        0,
+        "[][true]",
+    ),
+    (
+        FORUM,
+        "comment",
+        "<%= comment.updated_at %> <%= comment.parent.updated_at %>",
+        "[{\"at\":10,\"changes\":[{\"create\":\"comment\",\"values\":{}},{\"create\":\"comment\",\"values\":{\"parent_id\":1}},{\"update\":\"comment\",\"id\":1,\"values\":{\"parent_id\":2}}]},{\"at\":50,\"changes\":[{\"touch\":\"comment\",\"id\":2}]}]",
+        0,
+        "50 50",
+    ),
+    (
+        SHOP,
+        "product",
+        "<%= product.updated_at %><% product.games.each do |g| %> <%= g.name %> <%= g.updated_at %><% end %>",
+        "[{\"at\":10,\"changes\":[{\"create\":\"product\",\"values\":{}}]},{\"at\":11,\"changes\":[{\"create\":\"game\",\"values\":{\"name\":\"X\",\"product_id\":1}},{\"create\":\"game\",\"values\":{\"name\":\"Y\",\"product_id\":1}},{\"create\":\"game\",\"values\":{\"name\":\"Z\",\"product_id\":1}}]},{\"at\":13,\"changes\":[{\"create\":\"product\",\"values\":{}}]},{\"at\":14,\"changes\":[{\"update\":\"game\",\"id\":3,\"values\":{\"product_id\":2}}]}]",
+        0,
+        "14 X 11 Y 11",
+    ),
+    (
+        SHOP,
+        "product",
+        "<%= product.updated_at %>",
+        "[{\"changes\":[{\"create\":\"product\",\"values\":{}}]}]",
+        0,
+        "77",
+    ),
+    (
+        SHOP,
+        "product",
+        "",
+        "[{\"at\":1,\"changes\":[{\"create\":\"product\",\"values\":{}}]},{\"changes\":[{\"destroy\":\"product\",\"id\":1}]},{\"changes\":[{\"create\":\"game\",\"values\":{\"product_id\":1}}]}]",
+        3,
+        "bundle commits 2: BadParent\n",
+    ),
+    (
+        FORUM,
+        "comment",
+        "",
+        "[{\"at\":1,\"changes\":[{\"create\":\"comment\",\"values\":{}},{\"create\":\"comment\",\"values\":{\"parent_id\":1}}]},{\"at\":2,\"changes\":[{\"destroy\":\"comment\",\"id\":1}]}]",
+        3,
+        "bundle commits 1: Restricted\n",
+    ),
+    (
+        SHOP,
+        "game",
+        "",
+        "[{\"at\":1,\"changes\":[{\"touch\":\"game\",\"id\":9}]}]",
+        3,
+        "bundle commits 0: MissingRow\n",
+    ),
+    (
+        SHOP,
+        "game",
+        "",
+        "[{\"at\":1,\"changes\":[{\"create\":\"game\",\"values\":{\"name\":\"X\"}}]}]",
+        3,
+        "bundle commits 0: NullRefused\n",
+    ),
+];
+
+#[test]
+fn pages_after_commits(rt: HostRuntime) -> Result<(), Fail> {
+    let alloc = rt.alloc();
+    let [a, b, c, d, e] = PIECES;
+    for (models, record, template, commits, status, text) in &HISTORIES {
+        let bundle = format!(in alloc; "{a}{models}{b}{record}{c}{template}{d}{commits}{e}")?;
+        let (ended, held) = answer(&rt, &["plain", "/things/1"], bundle.as_str(), &[], &[])?;
+        assert_eq!(rt; held.as_slice(), text.as_bytes(), "after {commits}");
+        assert_eq!(rt; ended, *status, "after {commits}");
     }
     Ok(())
 }

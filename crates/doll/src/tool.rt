@@ -4,7 +4,7 @@ ghost use Rattle.std.specs.Prelude.{◌≡◌, map, string_bytes, None, IfOk, Is
 ghost use Rattle.doll_base.specs.Faults.{Rose, KeepsCount};
 ghost use Rattle.doll_base.specs.Streams.{Appended, AppendedPart};
 ghost use Rattle.doll.specs.declared.tool.Unanswered.TheVariants as unanswered;
-ghost use Rattle.doll.specs.Replies.{IsReply, Answers, AnswersPart, IsAnswer, IsSilent, plain_path};
+ghost use Rattle.doll.specs.Replies.{IsReply, Asking, Answers, AnswersPart, IsAnswer, IsSilent, plain_path};
 
 use crate::reply::{LONGEST_INPUT, Reply, plain_path, plain_reply, too_long, usage};
 use doll_base::{Clock, Folder, InputFault, Sink, Source, read_all, write_whole};
@@ -39,18 +39,25 @@ impl From<Memory> for Unanswered {
 }
 
 /// The reply to the words and what the source gives.
-fn reply_to<S: Source>(alloc: Global, words: &[String], source: &mut S) -> Result<Reply, Unanswered>
-    ensures reply { IfOk result (λ reply. IsReply (map string_bytes words.now) (S.left source.old) reply) }
+fn reply_to<S: Source, C: Clock>(
+    alloc: Global,
+    words: &[String],
+    source: &mut S,
+    clock: &mut C,
+) -> Result<Reply, Unanswered>
+    ensures reply { IfOk result (λ reply. IsReply (map string_bytes words.now) (S.left source.old) (C.readings clock.old) (C.readings clock.new) reply) }
     ensures status { IfOk result (λ reply. IsAnswer reply.status) }
     ensures failed { IsErrOf result Unanswered.Failed → Rose (S.faults source.old) (S.faults source.new) }
     ensures unread { plain_path (map string_bytes words.now) ≡ None → (S.left source.new ≡ S.left source.old) × (S.faults source.new ≡ S.faults source.old) }
+    ensures clock { IsErrOf result Unanswered.Failed → C.readings clock.new ≡ C.readings clock.old }
     ensures count { KeepsCount (S.faults source.old) (S.faults source.new) }
 {
-    let Some(path) = plain_path(words) else {
-        return Ok(usage(alloc)?);
+    let path = match plain_path(words) {
+        Some(path) => path,
+        None => return Ok(usage(alloc)?),
     };
     match read_all(alloc, source, LONGEST_INPUT) {
-        Ok(input) => Ok(plain_reply(alloc, path, input.as_slice())?),
+        Ok(input) => Ok(plain_reply(alloc, path, input.as_slice(), clock)?),
         Err(InputFault::TooLong) => Ok(too_long(alloc)?),
         Err(InputFault::Failed) => Err(Unanswered::Failed),
         Err(InputFault::Memory) => Err(Unanswered::Memory),
@@ -66,20 +73,22 @@ pub fn run_tool<F: Folder, S: Source, K: Sink, C: Clock>(
     sink: &mut K,
     clock: &mut C,
 ) -> Status
-    // Where nothing failed and memory was found, the status and what is written are those of the words and the input.
-    ensures answer { IsAnswer result → Answers (map string_bytes words.now) (S.left source.old) (K.held sink.old) (K.held sink.new) result }
+    // Where nothing failed and memory was found, the status and what is written are those of the words, the input and the
+    // clock's readings.
+    ensures answer { IsAnswer result → Answers (record { words = map string_bytes words.now; left = S.left source.old; before = C.readings clock.old; after = C.readings clock.new }) (K.held sink.old) (K.held sink.new) result }
     // It doesn't give up by itself.
     ensures read_failed { result ≡ READ_FAILED → Rose (S.faults source.old) (S.faults source.new) }
-    ensures write_failed { result ≡ WRITE_FAILED → Rose (K.faults sink.old) (K.faults sink.new) × AnswersPart (map string_bytes words.now) (S.left source.old) (K.held sink.old) (K.held sink.new) }
+    ensures write_failed { result ≡ WRITE_FAILED → Rose (K.faults sink.old) (K.faults sink.new) × AnswersPart (record { words = map string_bytes words.now; left = S.left source.old; before = C.readings clock.old; after = C.readings clock.new }) (K.held sink.old) (K.held sink.new) }
     // Words that are none of the forms are told before anything is read.
     ensures unread { plain_path (map string_bytes words.now) ≡ None → (S.left source.new ≡ S.left source.old) × (S.faults source.new ≡ S.faults source.old) }
     // Without an answer nothing is written.
     ensures silent { IsSilent result → K.held sink.new ≡ K.held sink.old }
-    // Neither the folder nor the clock is asked yet.
+    // Where the input wasn't read the clock isn't either.
+    ensures clock { result ≡ READ_FAILED → C.readings clock.new ≡ C.readings clock.old }
+    // The folder isn't asked yet.
     ensures folder { F.faults folder.new ≡ F.faults folder.old }
-    ensures clock { C.readings clock.new ≡ C.readings clock.old }
 {
-    let reply = match reply_to(alloc, words, source) {
+    let reply = match reply_to(alloc, words, source, clock) {
         Ok(reply) => reply,
         Err(Unanswered::Failed) => return READ_FAILED,
         Err(Unanswered::Memory) => return NO_MEMORY,

@@ -1,8 +1,24 @@
-use Rattle.std.proofs.Common.{sym, map, string_bytes}
+use Rattle.std.proofs.Common.{sym, ap, subst, ◌∙◌, map, string_bytes, ◌≤◌, List, ℕ, length, arith}
+use Rattle.std.specs.Prelude.{IfSome, Ok}
+use Rattle.doll_base.specs.Inputs.{read_up_to}
+use Rattle.doll.specs.Replies.{IsReply}
 use Rattle.doll.proofs.Longs.{too_long-reply}
+use Rattle.doll.proofs.Answered.{usage_reply, read_reply}
 use Rattle.doll.proofs.tool.reply_to.Goals as goal
+
+pub returns-in-None-clause-reply : goal.returns-in-None-clause-reply
+returns-in-None-clause-reply g c =
+    rw c.in_ok-usage-in-None.ensures.value
+    (usage_reply (map string_bytes c.args.words.now) (g.S.Source.left c.args.source.now) (g.C.Clock.readings c.args.clock.now) (sym c.in-None.ensures))
+
+pub returns-in_ok-plain_reply-in-Ok-clause-reply : goal.returns-in_ok-plain_reply-in-Ok-clause-reply
+returns-in_ok-plain_reply-in-Ok-clause-reply g c =
+    let words = map string_bytes c.args.words.now in
+    let short : length c.as_slice.result.now ≤ 16777216 = omega (arith, c.as_slice.ensures.len, c.in-Ok.ensures.within) in
+    read_reply words c.in-Some.path.now c.as_slice.result.now (g.S.Source.left c.args.source.now) (g.C.Clock.readings c.args.clock.now) (g.C.Clock.readings c.plain_reply.new.clock) c.in_ok-plain_reply-in-Ok.field-0
+    (sym c.in-Some.ensures) (rw c.as_slice.ensures.value c.in-Ok.ensures.told) short c.in_ok-plain_reply-in-Ok.ensures.value
 
 pub returns-in_ok-too_long-in-Err-TooLong-clause-reply : goal.returns-in_ok-too_long-in-Err-TooLong-clause-reply
 returns-in_ok-too_long-in-Err-TooLong-clause-reply g c =
     rw c.in_ok-too_long-in-Err-TooLong.ensures.value
-    (too_long-reply (map string_bytes c.args.words.now) c.in-Some.path.now (g.S.Source.left c.args.source.now) (sym c.in-Some.ensures) (rw c.in-Err-TooLong.field-0-is at c.in-Err-TooLong.ensures.told))
+    (too_long-reply (map string_bytes c.args.words.now) c.in-Some.path.now (g.S.Source.left c.args.source.now) (g.C.Clock.readings c.args.clock.now) (sym c.in-Some.ensures) (rw c.in-Err-TooLong.field-0-is at c.in-Err-TooLong.ensures.told))

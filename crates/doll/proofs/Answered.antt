@@ -1,0 +1,58 @@
+-- What the program answers to its words and an input that was read.
+use Rattle.std.proofs.Common.{◌≡◌, ◌≤◌, ℕ, Bool, true, false, cond, List, [], length, Option, None, Some, Result, Ok, Err, refl, sym, ap, ◌∙◌, arith}
+use Rattle.std.specs.Prelude.{IfSome, nat_lt}
+use Rattle.std.proofs.lemmas.Bool.Decides.{nat_tests}
+use Rattle.doll_base.specs.Streams.{Appended}
+use Rattle.doll_base.specs.Inputs.{read_up_to}
+use Rattle.doll_base.specs.declared.input.InputFault.{InputFault}
+use Rattle.doll_base.specs.declared.input.InputFault.TheVariants.{TooLong}
+use Rattle.doll.specs.declared.reply.Reply.{Reply}
+use Rattle.doll.specs.Sites.{readings_for}
+use Rattle.doll.specs.Replies.{reply_of, readings_of, plain_path, plain_reply, usage, IsReply}
+use Rattle.doll.proofs.Readings.{appended_none}
+
+-- words that are none of the forms are answered so, whatever the input
+pub usage_reply : (words : List (List ℕ)) (left clock : Option (List ℕ)) → plain_path words ≡ None → IsReply words left clock clock usage
+usage_reply words None clock none = record {
+  input = [];
+  readings = [];
+  told = tt;
+  taken = appended_none clock;
+  count = rw none refl;
+  is = rw none refl;
+}
+usage_reply words (Some bytes) clock none = record {
+  input = bytes;
+  readings = [];
+  told = refl;
+  taken = appended_none clock;
+  count = rw none refl;
+  is = rw none refl;
+}
+
+-- the input that was read is what was left, where that is told
+input_told : (left : Option (List ℕ)) (input : List ℕ) → IfSome left (λ bytes. read_up_to 16777216 bytes ≡ Ok input) → IfSome left (λ bytes. bytes ≡ input)
+input_told None input told = tt
+input_told (Some bytes) input told = by_test (nat_lt 16777216 (length bytes)) told
+  where
+    by_test : (long : Bool) → cond long (Err TooLong) (Ok bytes) ≡ Ok input → bytes ≡ input
+    by_test true is = absurd (cc is)
+    by_test false is = cc is
+
+-- an input that isn't too long needs the readings of its bundle
+readings_are : (words : List (List ℕ)) (path input : List ℕ) → plain_path words ≡ Some path → length input ≤ 16777216 → readings_for input ≡ readings_of words input
+readings_are words path input plain short =
+    let test : nat_lt 16777216 (length input) ≡ false = grind (arith, nat_tests, short) in
+    rw (plain, test) refl
+
+-- the reply to an input that was read
+pub read_reply : (words : List (List ℕ)) (path input : List ℕ) (left before after : Option (List ℕ)) (reply : Reply) → plain_path words ≡ Some path → IfSome left (λ bytes. read_up_to 16777216 bytes ≡ Ok input) → length input ≤ 16777216
+    → (readings : List ℕ) × Appended before after readings × ((length readings ≡ readings_for input) × (reply ≡ plain_reply path input readings)) → IsReply words left before after reply
+read_reply words path input left before after reply plain told short timed = record {
+  input = input;
+  readings = timed.0;
+  told = input_told left input told;
+  taken = timed.1;
+  count = timed.2.0 ∙ readings_are words path input plain short;
+  is = timed.2.1 ∙ rw plain refl;
+}

@@ -1,0 +1,24 @@
+-- Readings that a clock gave, one after another.
+use Rattle.std.proofs.Common.{◌≡◌, ℕ, List, [], ◌∷◌, ◌++◌, Option, None, Some, ap, sym, ◌∙◌, append_assoc, rules}
+use Rattle.std.proofs.lemmas.List.{append-nil}
+use Rattle.doll_base.specs.Streams.{Appended}
+use Rattle.doll.specs.Timed.{ReadsClock}
+
+-- one reading more
+pub appended_more : (first old new : Option (List ℕ)) (readings : List ℕ) (reading : ℕ) → Appended first old readings → Appended old new (reading ∷ []) → Appended first new (readings ++ reading ∷ [])
+appended_more None None None readings reading before more = tt
+appended_more (Some first) (Some old) (Some new) readings reading before more =
+    more ∙ ap (λ (l : List ℕ). l ++ reading ∷ []) before ∙ append_assoc first readings (reading ∷ [])
+appended_more None None (Some new) readings reading before more = absurd more
+appended_more None (Some old) new readings reading before more = absurd before
+appended_more (Some first) None new readings reading before more = absurd before
+appended_more (Some first) (Some old) None readings reading before more = absurd more
+
+-- a clock that gave readings, and then one more
+pub reads_more : (first old new : Option (List ℕ)) (readings : List ℕ) (reading : ℕ) → Appended first old readings → Appended old new (reading ∷ []) → ReadsClock first new
+reads_more first old new readings reading before more = (readings ++ reading ∷ [], appended_more first old new readings reading before more)
+
+-- no reading
+pub appended_none : (now : Option (List ℕ)) → Appended now now []
+appended_none None = tt
+appended_none (Some given) = sym (append-nil given)
