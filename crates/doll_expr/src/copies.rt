@@ -2,7 +2,6 @@
 
 ghost use Rattle.std.specs.Prelude.{◌≡◌, IfOk};
 
-use crate::expr::Expr;
 use crate::memory::Memory;
 use crate::text::{Bytes, Ids, Name, Text};
 use sqlite_items::Items;
@@ -39,9 +38,9 @@ impl Copied for Ids {
     }
 }
 
-impl Copied for Expr {
-    fn copy(&self, alloc: Global) -> Result<Expr, Memory> {
-        self.copy(alloc)
+impl<T: Copied> Copied for Items<T> {
+    fn copy(&self, alloc: Global) -> Result<Items<T>, Memory> {
+        copy_list(alloc, self.as_slice())
     }
 }
 

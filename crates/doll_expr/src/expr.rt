@@ -1,11 +1,7 @@
 //! The tree of an expression.
 
-ghost use Rattle.std.specs.Prelude.{◌≡◌, IfOk};
-
-use crate::memory::Memory;
 use crate::text::{Name, Text};
 use sqlite_items::Boxed;
-use std::alloc::Global;
 
 /// An expression of a template's tag.
 #[derive(Debug, Drop)]
@@ -56,9 +52,10 @@ pub enum Op {
 /// Why a text is no expression. `at` counts bytes from the text's first.
 #[derive(Clone, Copy, Debug, PartialEq, Eq)]
 pub enum ExprFault {
-    /// A byte that begins no token, a wrong escape, or a token after which no sentence goes on.
+    /// A byte that begins no token, a wrong escape, `#{` in a text in `"`, or a token after which no sentence goes on.
+    /// Where the text ends too early with no open parenthesis, `at` is its length.
     Unexpected { at: u32 },
-    /// A literal text without its closing mark, or a `(` without its `)`.
+    /// A literal text without its closing mark, or, where the text ends too early, its innermost open `(`.
     Unclosed { at: u32 },
     /// A number over 9,223,372,036,854,775,807.
     NumberTooLarge { at: u32 },
@@ -66,34 +63,4 @@ pub enum ExprFault {
     TooDeep { at: u32 },
     /// No memory was found.
     Memory,
-}
-
-impl Expr {
-    pub fn copy(&self, alloc: Global) -> Result<Expr, Memory>
-        ensures { IfOk result (λ e. e ≡ self.now) }
-    {
-        match self {
-            Expr::Nil => Ok(Expr::Nil),
-            Expr::True => Ok(Expr::True),
-            Expr::False => Ok(Expr::False),
-            Expr::Int(value) => Ok(Expr::Int(*value)),
-            Expr::Text(text) => Ok(Expr::Text(text.copy(alloc)?)),
-            Expr::Var(name) => Ok(Expr::Var(name.copy(alloc)?)),
-            Expr::Step(of, name) => {
-                let of = Boxed::new(alloc, of.get().copy(alloc)?)?;
-                Ok(Expr::Step(of, name.copy(alloc)?))
-            }
-            Expr::Ask(of, query) => {
-                let of = Boxed::new(alloc, of.get().copy(alloc)?)?;
-                Ok(Expr::Ask(of, *query))
-            }
-            Expr::Not(of) => Ok(Expr::Not(Boxed::new(alloc, of.get().copy(alloc)?)?)),
-            Expr::Neg(of) => Ok(Expr::Neg(Boxed::new(alloc, of.get().copy(alloc)?)?)),
-            Expr::Binary(op, left, right) => {
-                let left = Boxed::new(alloc, left.get().copy(alloc)?)?;
-                let right = Boxed::new(alloc, right.get().copy(alloc)?)?;
-                Ok(Expr::Binary(*op, left, right))
-            }
-        }
-    }
 }
