@@ -93,8 +93,8 @@ mark_plain : (at : ℕ) (o : Option (Mark × ℕ)) → IsPlain (mark_from at o)
 mark_plain at (Some found) = refl
 mark_plain at None = tt
 
-others_plain : (at b : ℕ) (bytes : List ℕ) → IsPlain (cond (b == 34 || b == 39) (text_at b at (drop 1 bytes)) (mark_from at (mark_of b (get_or bytes 1 0))))
-others_plain at b bytes = plain_cond (b == 34 || b == 39) (text_at b at (drop 1 bytes)) (mark_from at (mark_of b (get_or bytes 1 0))) (text_plain b at (drop 1 bytes)) (mark_plain at (mark_of b (get_or bytes 1 0)))
+others_plain : (at b : ℕ) (bytes : List ℕ) → IsPlain (cond (b == 34 || b == 39) (text_at b at (drop 1 bytes)) (mark_from at (mark_of bytes)))
+others_plain at b bytes = plain_cond (b == 34 || b == 39) (text_at b at (drop 1 bytes)) (mark_from at (mark_of bytes)) (text_plain b at (drop 1 bytes)) (mark_plain at (mark_of bytes))
 
 named_plain : (at b : ℕ) (bytes : List ℕ) (other : Front) → IsPlain other → IsPlain (cond (b == 64) (name_at at (drop 1 bytes)) other)
 named_plain at b bytes other h = plain_cond (b == 64) (name_at at (drop 1 bytes)) other (name_plain at (drop 1 bytes)) h
@@ -109,7 +109,7 @@ front_plain : (dot : Bool) (at : ℕ) (bytes : List ℕ) → IsPlain (front dot 
 unfolding front
 front_plain dot at bytes =
     let b = get_or bytes 0 0 in
-    let other : Front = cond (b == 34 || b == 39) (text_at b at (drop 1 bytes)) (mark_from at (mark_of b (get_or bytes 1 0))) in
+    let other : Front = cond (b == 34 || b == 39) (text_at b at (drop 1 bytes)) (mark_from at (mark_of bytes)) in
     let named : Front = cond (b == 64) (name_at at (drop 1 bytes)) other in
     let word : Front = cond (is_lower b) (word_at dot at bytes) named in
     number_or_plain at b bytes word (word_or_plain dot at b bytes named (named_plain at b bytes other (others_plain at b bytes)))

@@ -15,10 +15,10 @@ use Rattle.doll_expr.specs.declared.token.TokenKind.TheVariants as kind
 use Rattle.doll_expr.specs.Gives.{Gives}
 use Rattle.doll_expr.specs.Tokens.{is_last, token, tokens_of}
 use Rattle.doll_expr.specs.Grammar.{expr, atom, Sentence, is_each, mark_at, word_at, atom_nil, atom_parentheses}
-use Rattle.doll_expr.specs.Reading.{literal, is_open, is_close, is_end, first_kind, place, fault_at, stops_at, close_at, level_at, atom_at, turns, expr_at, whole_of, expr_of, ◌>>=◌}
+use Rattle.doll_expr.specs.Reading.{literal, is_open, is_close, is_end, first_kind, place, fault_at, stops_at, close_at, level_at, atom_at, enough_fuel, expr_at, whole_of, expr_of, ◌>>=◌}
 use Rattle.doll_expr.specs.Faults.{opened_after, fault_behind, IsFirstFault, Faults}
 use Rattle.doll_expr.proofs.Rules.{first_is, open_is, if_some_is, chosen, ok_is}
-use Rattle.doll_expr.proofs.Turns.{atom_open_stop, atom_close_stop, atom_stop}
+use Rattle.doll_expr.proofs.Fuel.{atom_open_stop, atom_close_stop, atom_stop}
 use Rattle.doll_expr.proofs.Found.{Pair, all_found, expr_found}
 use Rattle.doll_expr.proofs.Only.{sentence_reads, enough, few_tokens_of}
 use Rattle.doll_expr.proofs.Shapes.{GoesOn, goes_on}
@@ -147,7 +147,7 @@ all_stuck (suc n) =
 abbrev Last : List Token
 Last = token kind.End 0 ∷ []
 
--- with so many turns a sentence before the end is read
+-- with so much fuel a sentence before the end is read
 reads_whole : (n : ℕ) (ts : List Token) (a : Expr) → Sentence expr ts a → level_at (n + (9 + 16 * length ts)) None level.Or (ts ++ Last) ≡ Ok (a, Last)
 reads_whole n ts a s = sentence_reads (n + (9 + 16 * length ts)) ts Last a s (omega arith) (refl, (refl, (refl, (refl, (refl, (refl, refl))))))
 
@@ -160,7 +160,7 @@ reads_to_end n ts t a is s =
 stuck_inside : (ts : List Token) (f : ExprFault) → length ts ≤ 201 → Ended ts → expr_at ts ≡ Err f → IsFirstFault ts f
 unfolding expr_at
 stuck_inside ts f few ended h =
-    let st = (all_stuck turns).level None level.Or ts f (omega (arith, enough, few)) ended h in
+    let st = (all_stuck enough_fuel).level None level.Or ts f (omega (arith, enough, few)) ended h in
     record {
       before = st.before;
       token = st.stop;
@@ -168,14 +168,14 @@ stuck_inside ts f few ended h =
       parts = st.parts;
       begins = (st.begins.0, st.begins.1.0, st.begins.1.1);
       stops = λ more a s.
-          let big = turns + (9 + 16 * length (st.before ++ st.stop ∷ more)) in
-          let reads : level_at big None level.Or (st.before ++ st.stop ∷ (more ++ Last)) ≡ Ok (a, Last) = ap (level_at big None level.Or) (sym (append_assoc st.before (st.stop ∷ more) Last)) ∙ reads_whole turns (st.before ++ st.stop ∷ more) a s in
+          let big = enough_fuel + (9 + 16 * length (st.before ++ st.stop ∷ more)) in
+          let reads : level_at big None level.Or (st.before ++ st.stop ∷ (more ++ Last)) ≡ Ok (a, Last) = ap (level_at big None level.Or) (sym (append_assoc st.before (st.stop ∷ more) Last)) ∙ reads_whole enough_fuel (st.before ++ st.stop ∷ more) a s in
           let stuck = st.local big (more ++ Last) (omega arith) in
           let g : Ok (a, Last) ≡ Err f = sym reads ∙ stuck in
           cc;
       unfinished = λ is a s.
-          let big = turns + (9 + 16 * length st.before) in
-          let g : Ok (a, st.stop ∷ []) ≡ Err f = sym (reads_to_end turns st.before st.stop a is s) ∙ st.local big [] (omega arith) in
+          let big = enough_fuel + (9 + 16 * length st.before) in
+          let g : Ok (a, st.stop ∷ []) ≡ Err f = sym (reads_to_end enough_fuel st.before st.stop a is s) ∙ st.local big [] (omega arith) in
           cc;
       is = st.fault [] refl;
     }
@@ -209,10 +209,10 @@ stuck_behind ts f x ended h other fault =
       parts = found.parts ∙ ap (λ (us : List Token). found.used ++ us) c.parts ∙ sym (append_assoc found.used c.before (c.stop ∷ c.after));
       begins = (g.0, g.1.0, g.1.1);
       stops = λ more a s.
-          let big = turns + (9 + 16 * length (before ++ c.stop ∷ more)) in
+          let big = enough_fuel + (9 + 16 * length (before ++ c.stop ∷ more)) in
           let behind : List Token = c.before ++ c.stop ∷ (more ++ Last) in
           let reads : level_at big None level.Or (found.used ++ behind) ≡ Ok (a, Last) =
-          ap (level_at big None level.Or) (sym (append_assoc before (c.stop ∷ more) Last ∙ append_assoc found.used c.before (c.stop ∷ (more ++ Last)))) ∙ reads_whole turns (before ++ c.stop ∷ more) a s in
+          ap (level_at big None level.Or) (sym (append_assoc before (c.stop ∷ more) Last ∙ append_assoc found.used c.before (c.stop ∷ (more ++ Last)))) ∙ reads_whole enough_fuel (before ++ c.stop ∷ more) a s in
           let again = found.local big behind (omega arith) (c.alike (more ++ Last)) in
           let same : (x.0, behind) ≡ (a, Last) = ok_is (x.0, behind) (a, Last) (sym again ∙ reads) in
           let rest : behind ≡ Last = ap (λ (y : Pair). y.1) same in

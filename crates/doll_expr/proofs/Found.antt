@@ -14,14 +14,14 @@ use Rattle.doll_expr.specs.declared.token.TokenKind.{TokenKind}
 use Rattle.doll_expr.specs.declared.token.TokenKind.TheVariants as kind
 use Rattle.doll_expr.specs.Tokens.{is_dot, token, tokens_of}
 use Rattle.doll_expr.specs.Grammar.{is_each, Rule, expr, unary, postfix, atom, Sentence, AreExpr, IsExpr, mark_at, unary_one, postfix_one, atom_parentheses}
-use Rattle.doll_expr.specs.Reading.{tighter, repeats, operator_of, sign_of, signed, literal, step_of, is_open, is_close, is_end, first_kind, place, has_step, fault_at, stops_at, close_at, steps_at, level_at, more_at, unary_at, atom_at, turns, expr_at, whole_of, expr_of, ◌>>=◌, Read}
-use Rattle.doll_expr.proofs.Turns.{Alike, alike_append, steps_go, steps_end, level_go, level_last, more_go, more_last, more_none, unary_sign, unary_go, atom_literal, atom_open}
+use Rattle.doll_expr.specs.Reading.{tighter, repeats, operator_of, sign_of, signed, literal, step_of, is_open, is_close, is_end, first_kind, place, has_step, fault_at, stops_at, close_at, steps_at, level_at, more_at, unary_at, atom_at, enough_fuel, expr_at, whole_of, expr_of, ◌>>=◌, Read}
+use Rattle.doll_expr.proofs.Fuel.{Alike, alike_append, steps_go, steps_end, level_go, level_last, more_go, more_last, more_none, unary_sign, unary_go, atom_literal, atom_open}
 use Rattle.doll_expr.proofs.Rules.{sign_again, rule_of, below, begun, below_is, unary_is, begins, ends, again, joins, first_is, operator_mark, mark_of_sign, sign_mark, sign_joins, dot_is, open_is, close_is, end_is, literal_other, literal_joins, step_other, step_joins, bind_ok, if_some_is, chosen, ok_is}
 
 abbrev pub Pair : Type 0
 Pair = Expr × List Token
 
--- Tokens that are used up and are a sentence, and the tree and the rest. The reading gives the same with more turns and before
+-- Tokens that are used up and are a sentence, and the tree and the rest. The reading gives the same with more fuel and before
 -- other tokens that are alike. P is what must hold for the rest not to begin with a step.
 pub record Found (R : ℕ → List Token → Read) (n : ℕ) (P : Type 0) (r : Rule) (ts : List Token) (x : Pair) : Type 0 where
   pub used : List Token
@@ -86,7 +86,7 @@ steps_found (suc n) opened a ts x h =
       })
     ]
 
--- what holds with this many turns
+-- what holds with this much fuel
 pub record AllFound (n : ℕ) : Type 0 where
   pub level : (opened : Option ℕ) (l : Level) (ts : List Token) (x : Pair) → level_at n opened l ts ≡ Ok x → Found (λ k us. level_at k opened l us) n (Unit {0}) (rule_of l) ts x
   pub more : (opened : Option ℕ) (l inner : Level) (left : Expr) (ts : List Token) (x : Pair) → tighter l ≡ Some inner → more_at n opened l inner left ts ≡ Ok x
@@ -258,9 +258,9 @@ all_found (suc n) =
     record { level = level_found n all; more = more_found n all; unary = unary_found n all; atom = atom_found n all }
 
 -- an expression at the front of tokens
-pub expr_found : (ts : List Token) (x : Pair) → expr_at ts ≡ Ok x → Found (λ k us. level_at k None level.Or us) turns (Unit {0}) expr ts x
+pub expr_found : (ts : List Token) (x : Pair) → expr_at ts ≡ Ok x → Found (λ k us. level_at k None level.Or us) enough_fuel (Unit {0}) expr ts x
 unfolding expr_at
-expr_found ts x h = (all_found turns).level None level.Or ts x h
+expr_found ts x h = (all_found enough_fuel).level None level.Or ts x h
 
 alone : (ts : List Token) → is_end (first_kind ts) ≡ true → length ts ≡ 1 → ts ≡ token kind.End (place ts) ∷ []
 alone [] last one = absurd (omega arith)

@@ -4,7 +4,7 @@ pub mod Rules
 pub mod Found
 pub mod Only
 pub mod Clauses
-pub mod Turns
+pub mod Fuel
 pub mod Shapes
 pub mod Ended
 pub mod Stuck

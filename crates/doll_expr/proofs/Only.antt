@@ -16,7 +16,7 @@ use Rattle.doll_expr.specs.declared.token.TokenKind.{TokenKind}
 use Rattle.doll_expr.specs.declared.token.TokenKind.TheVariants as kind
 use Rattle.doll_expr.specs.Tokens.{is_dot, token, tokens_from, at_most, tokens_of}
 use Rattle.doll_expr.specs.Grammar.{is_each, Rule, expr, and, eq, cmp, sum, prod, unary, postfix, atom, Sentence, AreExpr, IsExpr, OneTree, begins_each, ends_before, ends_expr, mark_at, expr_one, expr_or, and_one, and_and, eq_one, eq_equal, eq_not_equal, cmp_one, cmp_less, cmp_less_or_equal, cmp_greater, cmp_greater_or_equal, sum_one, sum_plus, sum_minus, prod_one, prod_times, unary_one, unary_not, unary_minus, postfix_one, postfix_name, postfix_id, postfix_updated_at, postfix_size, postfix_ask, atom_number, atom_text, atom_nil, atom_true, atom_false, atom_name, atom_parentheses}
-use Rattle.doll_expr.specs.Reading.{tighter, repeats, between, operator_of, sign_of, literal, step_of, first_kind, has_step, close_at, steps_at, level_at, more_at, unary_at, atom_at, turns, expr_at, whole_of, expr_of, ◌>>=◌, Read}
+use Rattle.doll_expr.specs.Reading.{tighter, repeats, between, operator_of, sign_of, literal, step_of, first_kind, has_step, close_at, steps_at, level_at, more_at, unary_at, atom_at, enough_fuel, expr_at, whole_of, expr_of, ◌>>=◌, Read}
 use Rattle.doll_expr.proofs.Rules.{ok_is}
 
 abbrev Pair : Type 0
@@ -48,7 +48,7 @@ EndsAnd = Ends level.And EndsEq
 abbrev pub EndsOr : List Token → Type 0
 EndsOr = Ends level.Or EndsAnd
 
--- ---- what is read, with turns enough: `k`, and 16 for each token
+-- ---- what is read, with fuel enough: `k`, and 16 for each token
 
 abbrev pub ReadsBy : Level → ℕ → (List Token → Type 0) → List Token → Expr → Type 0
 ReadsBy l k E ts a = (n : ℕ) (opened : Option ℕ) (rest : List Token) → k + 16 * length ts ≤ n → E rest → level_at n opened l (ts ++ rest) ≡ Ok (a, rest)
@@ -297,18 +297,18 @@ claim_some atom ts a c = c.0
 pub some_tokens : (r : Rule) (ts : List Token) (a : Expr) → Sentence r ts a → 1 ≤ length ts
 some_tokens r ts a s = claim_some r ts a (claims r ts a s)
 
-pub enough : 9 + 16 * 201 ≤ turns
-unfolding turns
+pub enough : 9 + 16 * 201 ≤ enough_fuel
+unfolding enough_fuel
 enough = omega arith
 
--- a sentence at the front of tokens, with turns enough for it
+-- a sentence at the front of tokens, with fuel enough for it
 pub sentence_reads : (n : ℕ) (ts rest : List Token) (a : Expr) → Sentence expr ts a → 9 + 16 * length ts ≤ n → EndsOr rest → level_at n None level.Or (ts ++ rest) ≡ Ok (a, rest)
 sentence_reads n ts rest a s enough ends = reads_of level.Or level.And 9 EndsAnd ts a (omega arith) (claims expr ts a s).1 n None rest enough ends
 
 -- a sentence at the front of tokens
 pub expr_only : (ts rest : List Token) (a : Expr) → Sentence expr ts a → length ts ≤ 200 → EndsOr rest → expr_at (ts ++ rest) ≡ Ok (a, rest)
 unfolding expr_at
-expr_only ts rest a s few ends = sentence_reads turns ts rest a s (omega (arith, enough, few)) ends
+expr_only ts rest a s few ends = sentence_reads enough_fuel ts rest a s (omega (arith, enough, few)) ends
 
 few_tokens : (n : ℕ) (ts : List Token) → length (at_most n ts) ≤ n + 1
 unfolding at_most

@@ -21,7 +21,7 @@ use Rattle.doll_expr.specs.Grammar.{Rule, unary, postfix, atom, Sentence, is_eac
 use Rattle.doll_expr.specs.Reading.{tighter, repeats, between, operator_of, sign_of, signed, step_of, first_kind, place, has_step, fault_of, fault_at, stops_at, steps_at, level_at, more_at, unary_at, atom_at, ◌>>=◌, Read}
 use Rattle.doll_expr.specs.Faults.{opened_by, opened_after, fault_behind}
 use Rattle.doll_expr.proofs.Rules.{rule_of, below, begun, below_is, unary_is, lifts, begins, again, joins, first_is, operator_mark, mark_of_sign, sign_mark, sign_again, sign_joins, dot_is, step_joins, if_some_is, chosen}
-use Rattle.doll_expr.proofs.Turns.{Alike, steps_go, steps_stop, level_go, level_stop, level_last, more_go, more_stop, unary_sign_stop, unary_go, unary_stop}
+use Rattle.doll_expr.proofs.Fuel.{Alike, steps_go, steps_stop, level_go, level_stop, level_last, more_go, more_stop, unary_sign_stop, unary_go, unary_stop}
 use Rattle.doll_expr.proofs.Found.{Pair, step_is, all_found}
 use Rattle.doll_expr.proofs.Only.{some_tokens}
 use Rattle.doll_expr.proofs.Shapes.{after_append, Even, even, plain, GoesOn}
@@ -254,7 +254,7 @@ stops opened ts ended none =
       | inr other ↦ stops_here opened ts ended other
     ]
 
--- ---- by the turns
+-- ---- by the fuel
 
 abbrev pub k_of : Level → ℕ
 k_of level.Or = 9

@@ -9,6 +9,7 @@ use Rattle.doll_expr.specs.declared.token.TokenKind.{TokenKind}
 use Rattle.doll_expr.specs.declared.token.TokenKind.TheVariants as kind
 use Rattle.doll_expr.specs.Grammar.{expr, Sentence}
 
+-- the open parentheses behind one more token
 abbrev pub opened_by : List ℕ → ℕ → TokenKind → List ℕ
 opened_by places at (kind.Mark mark.Open) = at ∷ places
 opened_by places at (kind.Mark mark.Close) = drop 1 places

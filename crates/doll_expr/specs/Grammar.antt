@@ -12,11 +12,13 @@ use Rattle.doll_expr.specs.declared.token.Word.TheVariants as word
 use Rattle.doll_expr.specs.declared.token.Token.{Token}
 use Rattle.doll_expr.specs.declared.token.TokenKind.{TokenKind}
 use Rattle.doll_expr.specs.declared.token.TokenKind.TheVariants as kind
-use Rattle.doll_expr.specs.Tokens.{token, tokens_of}
+use Rattle.doll_expr.specs.Tokens.{is_word, token, tokens_of}
 
+-- a mark as a token
 abbrev pub mark_at : Mark → ℕ → Token
 mark_at m at = token (kind.Mark m) at
 
+-- a word as a token
 abbrev pub word_at : Word → ℕ → Token
 word_at w at = token (kind.Word w) at
 
@@ -104,14 +106,16 @@ is_operator mark.Minus = true
 is_operator mark.Times = true
 is_operator _ = false
 
+-- the word behind which the items of a list have their block
 abbrev pub is_each : TokenKind → Bool
-is_each (kind.Word word.Each) = true
-is_each _ = false
+is_each = is_word word.Each
 
+-- whether the first token is `each`
 abbrev pub begins_each : List Token → Bool
 begins_each [] = false
 begins_each (t ∷ rest) = is_each t.kind
 
+-- whether an expression ends before a token of this kind and those after it
 abbrev pub ends_before : TokenKind → List Token → Bool
 ends_before (kind.Mark mark.Dot) rest = begins_each rest
 ends_before (kind.Mark m) rest = not (is_operator m)

@@ -1,4 +1,5 @@
--- Reading an expression from the left, with the first fault that is met. The grammar is in Grammar; this says which fault comes, and where.
+-- Reading an expression from the left, with the first fault that is met: the form of the reader, which walks the tokens as this does. What it
+-- answers is said without it by the clauses `found`, `only` and `fault` of `parse_expr`: by the sentences of Grammar and the first fault of Faults.
 use Rattle.std.specs.Prelude.{◌≡◌, ℕ, zero, suc, Bool, true, false, not, ◌&&◌, ◌==◌, List, [], ◌∷◌, length, drop, Option, Some, None, Result, Ok, Err, MatchResult, if◌then◌else◌, codes}
 use Rattle.std.specs.Borrow.{Bor}
 use Rattle.doll_expr.specs.declared.expr.Expr.{Expr}
@@ -19,11 +20,12 @@ use Rattle.doll_expr.specs.declared.token.Word.TheVariants as word
 use Rattle.doll_expr.specs.declared.token.Token.{Token}
 use Rattle.doll_expr.specs.declared.token.TokenKind.{TokenKind}
 use Rattle.doll_expr.specs.declared.token.TokenKind.TheVariants as kind
-use Rattle.doll_expr.specs.Tokens.{is_dot, tokens_of}
+use Rattle.doll_expr.specs.Tokens.{is_dot, is_mark, tokens_of}
 use Rattle.doll_expr.specs.Grammar.{is_each}
 
 -- ---- the levels of operators, and the operators of each
 
+-- the level of the operands; past the last level with operators there is what stands between operators
 abbrev pub tighter : Level → Option Level
 tighter level.Or = Some level.And
 tighter level.And = Some level.Equality
@@ -39,6 +41,7 @@ repeats level.Equality = false
 repeats level.Order = false
 repeats _ = true
 
+-- the operator of a level that a mark is
 abbrev pub between : Level → Mark → Option Op
 between level.Or mark.Or = Some op.Or
 between level.And mark.And = Some op.And
@@ -55,19 +58,23 @@ between _ _ = None
 
 -- ---- what a token is here
 
+-- the operator of a level
 abbrev pub operator_of : Level → TokenKind → Option Op
 operator_of l (kind.Mark m) = between l m
 operator_of l _ = None
 
+-- what may stand before an operand
 abbrev pub sign_of : TokenKind → Option Sign
 sign_of (kind.Mark mark.Not) = Some sign.Not
 sign_of (kind.Mark mark.Minus) = Some sign.Minus
 sign_of _ = None
 
+-- an operand with a sign before it
 abbrev pub signed : Sign → Expr → Expr
 signed sign.Not a = e.Not a
 signed sign.Minus a = e.Neg a
 
+-- a word that is an expression by itself
 abbrev pub constant : Word → Option Expr
 constant word.Nil = Some e.Nil
 constant word.True = Some e.True
@@ -82,6 +89,7 @@ literal (kind.Name name) = Some (e.Var name)
 literal (kind.Word w) = constant w
 literal _ = None
 
+-- what a word after a dot makes of the expression before it
 abbrev pub step_by : Expr → Word → Option Expr
 step_by a word.Id = Some (e.Step a (codes "id"))
 step_by a word.UpdatedAt = Some (e.Step a (codes "updated_at"))
@@ -95,24 +103,27 @@ step_of a (kind.Ask q) = Some (e.Ask a q)
 step_of a (kind.Word w) = step_by a w
 step_of a _ = None
 
+-- an opening parenthesis
 abbrev pub is_open : TokenKind → Bool
-is_open (kind.Mark mark.Open) = true
-is_open _ = false
+is_open = is_mark mark.Open
 
+-- a closing parenthesis
 abbrev pub is_close : TokenKind → Bool
-is_close (kind.Mark mark.Close) = true
-is_close _ = false
+is_close = is_mark mark.Close
 
+-- the end of the text
 abbrev pub is_end : TokenKind → Bool
 is_end kind.End = true
 is_end _ = false
 
 -- ---- the first token; past the last one there is the end
 
+-- what the first token is
 abbrev pub first_kind : List Token → TokenKind
 first_kind [] = kind.End
 first_kind (t ∷ ts) = t.kind
 
+-- where the first token stands
 abbrev pub place : List Token → ℕ
 place [] = 0
 place (t ∷ ts) = t.at
@@ -123,10 +134,12 @@ has_step ts = is_dot (first_kind ts) && not (is_each (first_kind (drop 1 ts)))
 
 -- ---- faults. The number, where there is one, is the place of the innermost parenthesis that is open.
 
+-- the text ends too early at this place
 abbrev pub ends_early : Option ℕ → ℕ → ExprFault
 ends_early None at = Unexpected at
 ends_early (Some opened) at = Unclosed opened
 
+-- the fault of a token of this kind at this place
 abbrev pub fault_of : Option ℕ → ℕ → TokenKind → ExprFault
 fault_of opened at (kind.Fault fault) = fault
 fault_of opened at kind.End = ends_early opened at
@@ -140,16 +153,19 @@ fault_at opened ts = fault_of opened (place ts) (first_kind ts)
 unfoldable pub stops_at : Option ℕ → List Token → ExprFault
 stops_at opened ts = if is_dot (first_kind ts) && is_each (first_kind (drop 1 ts)) then fault_at opened (drop 1 ts) else fault_at opened ts
 
--- ---- reading: the tree, and the tokens after it
+-- ---- reading: the tree, and the tokens after it. The first number of each is the fuel that is left: a call takes one of it, so that the reading ends.
 
+-- a tree with the tokens after it, or a fault
 abbrev pub Read : Type 0
 Read = Result (Expr × List Token) ExprFault
 
 infixl 10 ◌>>=◌
+-- what comes next, if there is no fault so far
 abbrev pub ◌>>=◌ : {A B : Type 0} → Result A ExprFault → (A → Result B ExprFault) → Result B ExprFault
 (Ok x) >>= f = f x
 (Err fault) >>= f = Err fault
 
+-- by what there is, else another thing
 abbrev pub if_some : {A B : Type 0} → Option A → (A → B) → B → B
 if_some (Some a) f other = f a
 if_some None f other = other
@@ -165,41 +181,43 @@ close_at opened ts = if is_close (first_kind ts) then Ok (drop 1 ts) else Err (s
 -- { "." step }
 unfoldable pub steps_at : ℕ → Option ℕ → Expr → List Token → Read
 steps_at zero opened a ts = Err (too_deep ts)
-steps_at (suc n) opened a ts =
-    if has_step ts then if_some (step_of a (first_kind (drop 1 ts))) (λ b. steps_at n opened b (drop 1 (drop 1 ts))) (Err (fault_at opened (drop 1 ts))) else Ok (a, ts)
+steps_at (suc fuel) opened a ts =
+    if has_step ts then if_some (step_of a (first_kind (drop 1 ts))) (λ b. steps_at fuel opened b (drop 1 (drop 1 ts))) (Err (fault_at opened (drop 1 ts))) else Ok (a, ts)
 
 unfoldable mutual
   -- operands of a level with its operators between them
   pub level_at : ℕ → Option ℕ → Level → List Token → Read
   level_at zero opened l ts = Err (too_deep ts)
-  level_at (suc n) opened l ts = if_some (tighter l) (λ inner. level_at n opened inner ts >>= λ x. more_at n opened l inner x.0 x.1) (unary_at n opened ts)
+  level_at (suc fuel) opened l ts = if_some (tighter l) (λ inner. level_at fuel opened inner ts >>= λ x. more_at fuel opened l inner x.0 x.1) (unary_at fuel opened ts)
 
   -- after an operand of the level: its operators and their other operands
   pub more_at : ℕ → Option ℕ → Level → Level → Expr → List Token → Read
   more_at zero opened l inner left ts = Err (too_deep ts)
-  more_at (suc n) opened l inner left ts = if_some (operator_of l (first_kind ts))
-      (λ o. level_at n opened inner (drop 1 ts) >>= λ x. if repeats l then more_at n opened l inner (e.Binary o left x.0) x.1 else Ok (e.Binary o left x.0, x.1))
+  more_at (suc fuel) opened l inner left ts = if_some (operator_of l (first_kind ts))
+      (λ o. level_at fuel opened inner (drop 1 ts) >>= λ x. if repeats l then more_at fuel opened l inner (e.Binary o left x.0) x.1 else Ok (e.Binary o left x.0, x.1))
       (Ok (left, ts))
 
+  -- signs and what they stand before
   pub unary_at : ℕ → Option ℕ → List Token → Read
   unary_at zero opened ts = Err (too_deep ts)
-  unary_at (suc n) opened ts = if_some (sign_of (first_kind ts))
-      (λ s. unary_at n opened (drop 1 ts) >>= λ x. Ok (signed s x.0, x.1))
-      (atom_at n opened ts >>= λ x. steps_at n opened x.0 x.1)
+  unary_at (suc fuel) opened ts = if_some (sign_of (first_kind ts))
+      (λ s. unary_at fuel opened (drop 1 ts) >>= λ x. Ok (signed s x.0, x.1))
+      (atom_at fuel opened ts >>= λ x. steps_at fuel opened x.0 x.1)
 
+  -- a token by itself, or an expression in parentheses
   pub atom_at : ℕ → Option ℕ → List Token → Read
   atom_at zero opened ts = Err (too_deep ts)
-  atom_at (suc n) opened ts = if_some (literal (first_kind ts))
+  atom_at (suc fuel) opened ts = if_some (literal (first_kind ts))
       (λ a. Ok (a, drop 1 ts))
-      (if is_open (first_kind ts) then (level_at n (Some (place ts)) level.Or (drop 1 ts) >>= λ x. close_at (place ts) x.1 >>= λ rest. Ok (x.0, rest)) else Err (fault_at opened ts))
+      (if is_open (first_kind ts) then (level_at fuel (Some (place ts)) level.Or (drop 1 ts) >>= λ x. close_at (place ts) x.1 >>= λ rest. Ok (x.0, rest)) else Err (fault_at opened ts))
 
--- Each token takes fewer than 16 turns, so there are enough for the tokens of any text.
-unfoldable pub turns : ℕ
-turns = 4096
+-- Each token takes less than 16 of the fuel, so there is enough for the tokens of any text.
+unfoldable pub enough_fuel : ℕ
+enough_fuel = 4096
 
 -- the expression at the front, and the tokens after it
 unfoldable pub expr_at : List Token → Read
-expr_at ts = level_at turns None level.Or ts
+expr_at ts = level_at enough_fuel None level.Or ts
 
 -- an expression and then the end
 unfoldable pub whole_of : List Token → Result Expr ExprFault

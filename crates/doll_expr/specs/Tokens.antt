@@ -2,6 +2,7 @@
 use Rattle.std.specs.Prelude.{ℕ, zero, suc, ◌+◌, ◌-◌, ◌*◌, ◌^◌, pos, Bool, true, false, ◌&&◌, ◌||◌, ◌==◌, nat_lt, List, [], ◌∷◌, ◌++◌, length, take, drop, slice_index, Option, Some, None, Result, Ok, Err, if◌then◌else◌, codes}
 use Rattle.std.specs.Char.{is_ascii_digit}
 use Rattle.std.specs.List.{fold, take_while}
+use Rattle.std.specs.Option.{option_map, option_or}
 use Rattle.doll_expr.specs.declared.expr.ExprFault.{ExprFault}
 use Rattle.doll_expr.specs.declared.expr.ExprFault.TheVariants.{Unexpected, Unclosed, NumberTooLarge, TooDeep}
 use Rattle.doll_expr.specs.declared.expr.Query.{Query}
@@ -12,6 +13,9 @@ use Rattle.doll_expr.specs.declared.token.Word.{Word}
 use Rattle.doll_expr.specs.declared.token.TokenKind.{TokenKind}
 use Rattle.doll_expr.specs.declared.token.TokenKind.TheVariants as kind
 use Rattle.doll_expr.specs.declared.token.Token.{Token}
+use denote.Enum.Bare.{sameb}
+use Rattle.doll_expr.specs.contracts.token.Mark.{the_type as marks_type}
+use Rattle.doll_expr.specs.contracts.token.Word.{the_type as words_type}
 use Rattle.doll_expr.specs.Names.{is_lower, is_word_byte, lookup, word_of, is_name}
 
 -- A token with the count of its bytes, or the fault of the text there.
@@ -24,9 +28,11 @@ Front = Result (TokenKind × ℕ) ExprFault
 abbrev pub decimal : List ℕ → ℕ
 decimal digits = fold (λ n digit. 10 * n + (digit - 48)) 0 digits
 
+-- a number, if 64 bits with a sign have room for it
 abbrev pub number_from : ℕ → List ℕ → Front
 number_from at digits = if nat_lt (decimal digits) (2 ^ 63) then Ok (kind.Number (pos (decimal digits)), length digits) else Err (NumberTooLarge at)
 
+-- the number at the front
 unfoldable pub number_at : ℕ → List ℕ → Front
 number_at at bytes = number_from at (take_while is_ascii_digit bytes)
 
@@ -45,10 +51,12 @@ abbrev pub plain_word : ℕ → List ℕ → Option Word → Front
 plain_word at word (Some known) = Ok (kind.Word known, length word)
 plain_word at word None = if is_name word then Ok (kind.Name word, length word) else Err (Unexpected at)
 
+-- a question takes its word and the `?`; without one the word is by itself
 abbrev pub word_from : ℕ → List ℕ → Option Query → Front
 word_from at word (Some asked) = Ok (kind.Ask asked, length word + 1)
 word_from at word None = plain_word at word (word_of word)
 
+-- the word or question at the front, where a dot may be the token before
 unfoldable pub word_at : Bool → ℕ → List ℕ → Front
 word_at after_dot at bytes = word_from at (take_while is_word_byte bytes) (question after_dot (take_while is_word_byte bytes) bytes)
 
@@ -56,6 +64,7 @@ word_at after_dot at bytes = word_from at (take_while is_word_byte bytes) (quest
 abbrev pub name_from : ℕ → List ℕ → Front
 name_from at word = if is_name word then Ok (kind.Name word, length word + 1) else Err (Unexpected at)
 
+-- the name at the front, behind its `@`
 unfoldable pub name_at : ℕ → List ℕ → Front
 name_at at bytes = name_from at (take_while is_word_byte bytes)
 
@@ -67,6 +76,7 @@ closing quote is_taken at [] = None
 closing quote true at (b ∷ bytes) = closing quote false (at + 1) bytes
 closing quote false at (b ∷ bytes) = if b == quote then Some at else closing quote (b == 92) (at + 1) bytes
 
+-- bytes before those that are read, if these have no fault
 abbrev pub with_front : List ℕ → Result (List ℕ) ExprFault → Result (List ℕ) ExprFault
 with_front front (Ok bytes) = Ok (front ++ bytes)
 with_front front (Err fault) = Err fault
@@ -98,10 +108,12 @@ double_quoted false at (b ∷ bytes) =
 unfoldable pub quoted : ℕ → ℕ → List ℕ → Result (List ℕ) ExprFault
 quoted quote at bytes = if quote == 39 then Ok (single_quoted false bytes) else double_quoted false (at + 1) bytes
 
+-- a text of so many bytes between its marks, or its fault
 abbrev pub text_of : ℕ → Result (List ℕ) ExprFault → Front
 text_of len (Ok bytes) = Ok (kind.Text bytes, len + 2)
 text_of len (Err fault) = Err fault
 
+-- a text, by the place of its closing mark
 abbrev pub text_from : ℕ → ℕ → List ℕ → Option ℕ → Front
 text_from quote at bytes None = Err (Unclosed at)
 text_from quote at bytes (Some len) = text_of len (quoted quote at (take len bytes))
@@ -110,21 +122,26 @@ text_from quote at bytes (Some len) = text_of len (quoted quote at (take len byt
 unfoldable pub text_at : ℕ → ℕ → List ℕ → Front
 text_at quote at bytes = text_from quote at bytes (closing quote false 0 bytes)
 
--- ---- marks, by their first byte and the one after it, the longer one where both fit
+-- ---- marks
 
-unfoldable pub mark_of : ℕ → ℕ → Option (Mark × ℕ)
-mark_of b next =
-    if b == 40 then Some (mark.Open, 1) else (if b == 41 then Some (mark.Close, 1) else (if b == 46 then Some (mark.Dot, 1)
-    else (if b == 45 then Some (mark.Minus, 1) else (if b == 43 then Some (mark.Plus, 1) else (if b == 42 then Some (mark.Times, 1)
-    else (if b == 44 then Some (mark.Comma, 1) else (if b == 58 then Some (mark.Colon, 1)
-    else (if b == 91 then Some (mark.OpenBracket, 1) else (if b == 93 then Some (mark.CloseBracket, 1)
-    else (if b == 33 then (if next == 61 then Some (mark.NotEqual, 2) else Some (mark.Not, 1))
-    else (if b == 60 then (if next == 61 then Some (mark.LessOrEqual, 2) else Some (mark.Less, 1))
-    else (if b == 62 then (if next == 61 then Some (mark.GreaterOrEqual, 2) else Some (mark.Greater, 1))
-    else (if b == 124 then (if next == 124 then Some (mark.Or, 2) else Some (mark.Bar, 1))
-    else (if b == 61 && next == 61 then Some (mark.Equal, 2)
-    else (if b == 38 && next == 38 then Some (mark.And, 2) else None)))))))))))))))
+-- the marks of the grammars of expressions and tags
+unfoldable pub marks : List (List ℕ × Mark)
+marks =
+    (codes "==", mark.Equal) ∷ (codes "!=", mark.NotEqual) ∷ (codes "<=", mark.LessOrEqual) ∷ (codes ">=", mark.GreaterOrEqual)
+    ∷ (codes "&&", mark.And) ∷ (codes "||", mark.Or) ∷ (codes "(", mark.Open) ∷ (codes ")", mark.Close)
+    ∷ (codes ".", mark.Dot) ∷ (codes "!", mark.Not) ∷ (codes "-", mark.Minus) ∷ (codes "+", mark.Plus)
+    ∷ (codes "*", mark.Times) ∷ (codes "<", mark.Less) ∷ (codes ">", mark.Greater) ∷ (codes ",", mark.Comma)
+    ∷ (codes ":", mark.Colon) ∷ (codes "[", mark.OpenBracket) ∷ (codes "]", mark.CloseBracket) ∷ (codes "|", mark.Bar) ∷ []
 
+-- the mark that these bytes are, and their count
+unfoldable pub mark_in : List ℕ → Option (Mark × ℕ)
+mark_in text = option_map (λ m. (m, length text)) (lookup marks text)
+
+-- the mark at the front, the longer one where two fit
+unfoldable pub mark_of : List ℕ → Option (Mark × ℕ)
+mark_of bytes = option_or (mark_in (take 2 bytes)) (mark_in (take 1 bytes))
+
+-- a mark, or the fault of a byte that begins none
 abbrev pub mark_from : ℕ → Option (Mark × ℕ) → Front
 mark_from at (Some found) = Ok (kind.Mark found.0, found.1)
 mark_from at None = Err (Unexpected at)
@@ -138,15 +155,27 @@ front after_dot at bytes =
     else (if is_lower (slice_index bytes 0) then word_at after_dot at bytes
     else (if slice_index bytes 0 == 64 then name_at at (drop 1 bytes)
     else (if slice_index bytes 0 == 34 || slice_index bytes 0 == 39 then text_at (slice_index bytes 0) at (drop 1 bytes)
-    else mark_from at (mark_of (slice_index bytes 0) (slice_index bytes 1)))))
+    else mark_from at (mark_of bytes))))
 
+-- white space: space, tab, `\r` and `\n`
 abbrev pub is_space : ℕ → Bool
 is_space b = b == 32 || b == 9 || b == 13 || b == 10
 
-abbrev pub is_dot : TokenKind → Bool
-is_dot (kind.Mark mark.Dot) = true
-is_dot _ = false
+-- whether a token is this mark, by the kit's `==` on kinds that hold nothing
+abbrev pub is_mark : Mark → TokenKind → Bool
+is_mark m (kind.Mark other) = sameb marks_type other m
+is_mark m _ = false
 
+-- whether a token is this word
+abbrev pub is_word : Word → TokenKind → Bool
+is_word w (kind.Word other) = sameb words_type other w
+is_word w _ = false
+
+-- the mark behind which a step or a question stands
+abbrev pub is_dot : TokenKind → Bool
+is_dot = is_mark mark.Dot
+
+-- a token of this kind, with its first byte at this place
 abbrev pub token : TokenKind → ℕ → Token
 token kind at = record { kind = kind; at = at }
 

@@ -1,6 +1,6 @@
 //! Cuts a text into tokens.
 
-ghost use Rattle.std.specs.Prelude.{◌≡◌, ◌≢◌, ◌⊎◌, ◌+◌, ◌<◌, ◌≤◌, true, false, length, slice_index, IfOk, IfSome};
+ghost use Rattle.std.specs.Prelude.{◌≡◌, ◌≢◌, ◌⊎◌, ◌+◌, ◌<◌, ◌≤◌, true, false, length, slice_index, take, IfOk, IfSome};
 ghost use Rattle.std.specs.Char.{is_ascii_digit};
 ghost use Rattle.std.specs.List.{prefix_len};
 ghost use Rattle.doll_expr.specs.Gives.{Gives};
@@ -23,6 +23,29 @@ const QUESTIONS: [(&[u8], Query); 3] = [
     (b"empty", Query::Empty),
     (b"any", Query::Any),
     (b"nil", Query::IsNil),
+];
+
+const MARKS: [(&[u8], Mark); 20] = [
+    (b"==", Mark::Equal),
+    (b"!=", Mark::NotEqual),
+    (b"<=", Mark::LessOrEqual),
+    (b">=", Mark::GreaterOrEqual),
+    (b"&&", Mark::And),
+    (b"||", Mark::Or),
+    (b"(", Mark::Open),
+    (b")", Mark::Close),
+    (b".", Mark::Dot),
+    (b"!", Mark::Not),
+    (b"-", Mark::Minus),
+    (b"+", Mark::Plus),
+    (b"*", Mark::Times),
+    (b"<", Mark::Less),
+    (b">", Mark::Greater),
+    (b",", Mark::Comma),
+    (b":", Mark::Colon),
+    (b"[", Mark::OpenBracket),
+    (b"]", Mark::CloseBracket),
+    (b"|", Mark::Bar),
 ];
 
 /// The tokens of a text, at most 200, and at last its end or its first fault. Nothing after a fault is read.
@@ -73,13 +96,15 @@ pub fn tokens_of(alloc: Global, bytes: &[u8]) -> Result<Items<Token>, Memory>
     }
 }
 
-fn is_space(byte: u8) -> bool
+/// Whether a byte is white space: a space, a tab, `\r` or `\n`.
+pub fn is_space(byte: u8) -> bool
     ensures { result ≡ spec.is_space byte }
 {
     byte == b' ' || byte == b'\t' || byte == b'\r' || byte == b'\n'
 }
 
-fn space_len(bytes: &[u8]) -> usize
+/// How much white space stands at the front.
+pub fn space_len(bytes: &[u8]) -> usize
     ensures value { result ≡ prefix_len spec.is_space bytes.now }
     ensures within { result ≤ length bytes.now }
 {
@@ -227,57 +252,51 @@ fn text_at(alloc: Global, quote: u8, at: u32, bytes: &[u8]) -> Result<(TokenKind
 }
 
 fn mark_at(at: u32, bytes: &[u8]) -> Result<(TokenKind, usize), ExprFault>
-    ensures value { Gives ExprFault.Memory (spec.mark_from at (spec.mark_of (slice_index bytes.now 0) (slice_index bytes.now 1))) result }
+    ensures value { Gives ExprFault.Memory (spec.mark_from at (spec.mark_of bytes.now)) result }
     ensures within { IfOk result (λ found. (1 ≤ found.1) × (found.1 ≤ length bytes.now)) }
     ensures plain { IfOk result (λ found. spec.is_last found.0 ≡ false) }
 {
-    let next = byte_at(bytes, 1);
-    match mark_of(byte_at(bytes, 0), next) {
+    match mark_of(bytes) {
         Some((mark, len)) => Ok((TokenKind::Mark(mark), len)),
         None => Err(ExprFault::Unexpected { at }),
     }
 }
 
-/// The mark at the front, by its first byte and the one after it, and its length.
+/// The mark at the front, of two bytes before one of a single byte, and its length.
 #[tactic(auto, unfolding(crate::specs::Tokens::mark_of))]
-fn mark_of(first: u8, next: u8) -> Option<(Mark, usize)>
-    ensures value { result ≡ spec.mark_of first next }
-    ensures one { IfSome result (λ found. (1 ≤ found.1) × (first ≢ 0)) }
-    ensures two { IfSome result (λ found. (found.1 ≤ 1) ⊎ ((found.1 ≤ 2) × (next ≢ 0))) }
+fn mark_of(bytes: &[u8]) -> Option<(Mark, usize)>
+    ensures value { result ≡ spec.mark_of bytes.now }
+    ensures within { IfSome result (λ found. (1 ≤ found.1) × (found.1 ≤ length bytes.now)) }
 {
-    match first {
-        b'(' => Some((Mark::Open, 1)),
-        b')' => Some((Mark::Close, 1)),
-        b'.' => Some((Mark::Dot, 1)),
-        b'-' => Some((Mark::Minus, 1)),
-        b'+' => Some((Mark::Plus, 1)),
-        b'*' => Some((Mark::Times, 1)),
-        b',' => Some((Mark::Comma, 1)),
-        b':' => Some((Mark::Colon, 1)),
-        b'[' => Some((Mark::OpenBracket, 1)),
-        b']' => Some((Mark::CloseBracket, 1)),
-        b'!' => Some(if next == b'=' {
-            (Mark::NotEqual, 2)
-        } else {
-            (Mark::Not, 1)
-        }),
-        b'<' => Some(if next == b'=' {
-            (Mark::LessOrEqual, 2)
-        } else {
-            (Mark::Less, 1)
-        }),
-        b'>' => Some(if next == b'=' {
-            (Mark::GreaterOrEqual, 2)
-        } else {
-            (Mark::Greater, 1)
-        }),
-        b'|' => Some(if next == b'|' {
-            (Mark::Or, 2)
-        } else {
-            (Mark::Bar, 1)
-        }),
-        b'=' if next == b'=' => Some((Mark::Equal, 2)),
-        b'&' if next == b'&' => Some((Mark::And, 2)),
-        _ => None,
+    if let Some(found) = mark_in(first_bytes(bytes, 2)) {
+        return Some(found);
+    }
+    mark_in(first_bytes(bytes, 1))
+}
+
+/// At most so many bytes of the front.
+fn first_bytes(bytes: &[u8], count: usize) -> &[u8]
+    ensures value { result.now ≡ take count bytes.now }
+    ensures within { length result.now ≤ length bytes.now }
+{
+    if bytes.len() <= count {
+        return bytes;
+    }
+    let (front, _rest) = bytes.split_at(count);
+    front
+}
+
+/// The mark that these bytes are, and their count.
+#[tactic(auto, unfolding(crate::specs::Tokens::mark_in, crate::specs::Tokens::marks))]
+fn mark_in(text: &[u8]) -> Option<(Mark, usize)>
+    ensures value { result ≡ spec.mark_in text.now }
+    ensures within { IfSome result (λ found. (1 ≤ found.1) × (found.1 ≤ length text.now)) }
+{
+    if text.is_empty() {
+        return None;
+    }
+    match lookup(&MARKS, text) {
+        Some(mark) => Some((mark, text.len())),
+        None => None,
     }
 }

@@ -16,10 +16,10 @@ pub mod words;
 
 pub use copies::{Copied, copy_list};
 pub use expr::{Expr, ExprFault, Op, Query};
-pub use lex::tokens_of;
+pub use lex::{is_space, space_len, tokens_of};
 pub use memory::Memory;
 pub use parse::{parse_expr, parse_expr_bytes};
-pub use read::{expr_at, fault_at, stops_at, whole_expr};
+pub use read::{expr_at, fault_at, is_mark, is_word, place, rest_of, stops_at, whole_expr};
 pub use sqlite_items::{Boxed, Items};
 pub use text::{Bytes, Ids, Name, Text};
 pub use token::{Mark, Token, TokenKind, Word};

@@ -5,10 +5,10 @@ ghost use Rattle.doll_expr.specs.declared.expr.Expr.{Expr};
 ghost use Rattle.doll_expr.specs.declared.token.Token.{Token};
 ghost use Rattle.doll_expr.specs.Gives.{Gives};
 ghost use Rattle.doll_expr.specs.Grammar as grammar;
-ghost use Rattle.doll_expr.specs.Grammar.{AreExpr, BeginsExpr, Sentence, ends_expr, is_each};
+ghost use Rattle.doll_expr.specs.Grammar.{AreExpr, BeginsExpr, Sentence, ends_expr};
 ghost use Rattle.doll_expr.specs.Reading as spec;
 ghost use Rattle.doll_expr.specs.Reading.{GivesBy, Reads};
-ghost use Rattle.doll_expr.specs.Tokens.{is_dot};
+ghost use Rattle.doll_expr.specs.Tokens.{is_mark, is_word};
 
 use crate::expr::{Expr, ExprFault, Op, Query};
 use crate::level::{Level, Sign, operator_of, repeats, tighter};
@@ -18,8 +18,8 @@ use crate::token::{Mark, Token, TokenKind, Word};
 use sqlite_items::Boxed;
 use std::alloc::Global;
 
-/// More turns than the tokens of a text take, which are at most 201 with fewer than 16 turns for each.
-const TURNS: u32 = 4096;
+/// More than the tokens of a text take, which are at most 201 and take less than 16 each. Each call of the reading takes one.
+const ENOUGH_FUEL: u32 = 4096;
 
 /// Reads the expression at the front of tokens, and gives the tokens after it. A `.` with `each` behind it ends an
 /// expression.
@@ -42,11 +42,11 @@ pub fn whole_expr(alloc: Global, tokens: &[Token]) -> Result<Expr, ExprFault>
     read_whole(alloc, tokens)
 }
 
-#[tactic(auto, unfolding(crate::specs::Reading::expr_at, crate::specs::Reading::turns))]
+#[tactic(auto, unfolding(crate::specs::Reading::expr_at, crate::specs::Reading::enough_fuel))]
 fn read_front(alloc: Global, tokens: &[Token]) -> Result<(Expr, &[Token]), ExprFault>
     ensures { Reads (spec.expr_at tokens.now) result }
 {
-    operands(alloc, TURNS, None, Level::Or, tokens)
+    operands(alloc, ENOUGH_FUEL, None, Level::Or, tokens)
 }
 
 #[tactic(auto, unfolding(crate::specs::Reading::whole_of))]
@@ -82,7 +82,7 @@ pub fn stops_at(opened: Option<u32>, tokens: &[Token]) -> ExprFault
     ensures { result ≡ spec.stops_at opened tokens.now }
 {
     let after = rest_of(tokens);
-    if is_dot(tokens) && is_each(after) {
+    if is_mark(Mark::Dot, tokens) && is_word(Word::Each, after) {
         return fault_at(opened, after);
     }
     fault_at(opened, tokens)
@@ -107,92 +107,92 @@ fn too_deep(tokens: &[Token]) -> ExprFault
 #[cycle(reading)]
 fn operands<'a>(
     alloc: Global,
-    turns: u32,
+    fuel: u32,
     opened: Option<u32>,
     level: Level,
     tokens: &'a [Token],
 ) -> Result<(Expr, &'a [Token]), ExprFault>
-    ensures { Reads (spec.level_at turns opened level tokens.now) result }
+    ensures { Reads (spec.level_at fuel opened level tokens.now) result }
 {
-    if turns == 0 {
+    if fuel == 0 {
         return Err(too_deep(tokens));
     }
     let Some(inner) = tighter(level) else {
-        return unary(alloc, turns - 1, opened, tokens);
+        return unary(alloc, fuel - 1, opened, tokens);
     };
-    let (left, rest) = operands(alloc, turns - 1, opened, inner, tokens)?;
-    more(alloc, turns - 1, opened, level, inner, left, rest)
+    let (left, rest) = operands(alloc, fuel - 1, opened, inner, tokens)?;
+    more(alloc, fuel - 1, opened, level, inner, left, rest)
 }
 
 #[tactic(auto, unfolding(crate::specs::Reading::more_at))]
 #[cycle(reading)]
 fn more<'a>(
     alloc: Global,
-    turns: u32,
+    fuel: u32,
     opened: Option<u32>,
     level: Level,
     inner: Level,
     left: Expr,
     tokens: &'a [Token],
 ) -> Result<(Expr, &'a [Token]), ExprFault>
-    ensures { Reads (spec.more_at turns opened level inner left tokens.now) result }
+    ensures { Reads (spec.more_at fuel opened level inner left tokens.now) result }
 {
-    if turns == 0 {
+    if fuel == 0 {
         return Err(too_deep(tokens));
     }
     let Some(op) = operator(level, tokens) else {
         return Ok((left, tokens));
     };
-    let (right, rest) = operands(alloc, turns - 1, opened, inner, rest_of(tokens))?;
+    let (right, rest) = operands(alloc, fuel - 1, opened, inner, rest_of(tokens))?;
     let both = binary(alloc, op, left, right)?;
     if !repeats(level) {
         return Ok((both, rest));
     }
-    more(alloc, turns - 1, opened, level, inner, both, rest)
+    more(alloc, fuel - 1, opened, level, inner, both, rest)
 }
 
 #[tactic(auto, unfolding(crate::specs::Reading::unary_at))]
 #[cycle(reading)]
 fn unary<'a>(
     alloc: Global,
-    turns: u32,
+    fuel: u32,
     opened: Option<u32>,
     tokens: &'a [Token],
 ) -> Result<(Expr, &'a [Token]), ExprFault>
-    ensures { Reads (spec.unary_at turns opened tokens.now) result }
+    ensures { Reads (spec.unary_at fuel opened tokens.now) result }
 {
-    if turns == 0 {
+    if fuel == 0 {
         return Err(too_deep(tokens));
     }
     if let Some(sign) = sign(tokens) {
-        let (of, rest) = unary(alloc, turns - 1, opened, rest_of(tokens))?;
+        let (of, rest) = unary(alloc, fuel - 1, opened, rest_of(tokens))?;
         return Ok((signed(alloc, sign, of)?, rest));
     }
-    let (of, rest) = atom(alloc, turns - 1, opened, tokens)?;
-    steps(alloc, turns - 1, opened, of, rest)
+    let (of, rest) = atom(alloc, fuel - 1, opened, tokens)?;
+    steps(alloc, fuel - 1, opened, of, rest)
 }
 
 #[tactic(auto, unfolding(crate::specs::Reading::atom_at))]
 #[cycle(reading)]
 fn atom<'a>(
     alloc: Global,
-    turns: u32,
+    fuel: u32,
     opened: Option<u32>,
     tokens: &'a [Token],
 ) -> Result<(Expr, &'a [Token]), ExprFault>
-    ensures { Reads (spec.atom_at turns opened tokens.now) result }
+    ensures { Reads (spec.atom_at fuel opened tokens.now) result }
 {
-    if turns == 0 {
+    if fuel == 0 {
         return Err(too_deep(tokens));
     }
     if let Some(expr) = literal(alloc, tokens)? {
         return Ok((expr, rest_of(tokens)));
     }
-    if !is_open(tokens) {
+    if !is_mark(Mark::Open, tokens) {
         return Err(fault_at(opened, tokens));
     }
     let at = place(tokens);
-    let (inner, after) = operands(alloc, turns - 1, Some(at), Level::Or, rest_of(tokens))?;
+    let (inner, after) = operands(alloc, fuel - 1, Some(at), Level::Or, rest_of(tokens))?;
     let rest = close(at, after)?;
     Ok((inner, rest))
 }
@@ -201,7 +201,7 @@ fn atom<'a>(
 fn close(opened: u32, tokens: &[Token]) -> Result<&[Token], ExprFault>
     ensures { GivesBy (λ x. x.now) (spec.close_at opened tokens.now) result }
 {
-    if !is_close(tokens) {
+    if !is_mark(Mark::Close, tokens) {
         return Err(stops_at(Some(opened), tokens));
     }
     Ok(rest_of(tokens))
@@ -210,14 +210,14 @@ fn close(opened: u32, tokens: &[Token]) -> Result<&[Token], ExprFault>
 #[tactic(auto, unfolding(crate::specs::Reading::steps_at))]
 fn steps<'a>(
     alloc: Global,
-    turns: u32,
+    fuel: u32,
     opened: Option<u32>,
     of: Expr,
     tokens: &'a [Token],
 ) -> Result<(Expr, &'a [Token]), ExprFault>
-    ensures { Reads (spec.steps_at turns opened of tokens.now) result }
+    ensures { Reads (spec.steps_at fuel opened of tokens.now) result }
 {
-    if turns == 0 {
+    if fuel == 0 {
         return Err(too_deep(tokens));
     }
     if !has_step(tokens) {
@@ -227,7 +227,7 @@ fn steps<'a>(
     let Some(made) = step(alloc, of, after)? else {
         return Err(fault_at(opened, after));
     };
-    steps(alloc, turns - 1, opened, made, rest_of(after))
+    steps(alloc, fuel - 1, opened, made, rest_of(after))
 }
 
 fn binary(alloc: Global, op: Op, left: Expr, right: Expr) -> Result<Expr, Memory>
@@ -342,6 +342,32 @@ fn sign(tokens: &[Token]) -> Option<Sign>
     }
 }
 
+/// Whether the first token is this mark.
+pub fn is_mark(mark: Mark, tokens: &[Token]) -> bool
+    ensures { result ≡ is_mark mark (spec.first_kind tokens.now) }
+{
+    let [token, ..] = tokens else {
+        return false;
+    };
+    match &token.kind {
+        TokenKind::Mark(other) => *other == mark,
+        _ => false,
+    }
+}
+
+/// Whether the first token is this word.
+pub fn is_word(word: Word, tokens: &[Token]) -> bool
+    ensures { result ≡ is_word word (spec.first_kind tokens.now) }
+{
+    let [token, ..] = tokens else {
+        return false;
+    };
+    match &token.kind {
+        TokenKind::Word(other) => *other == word,
+        _ => false,
+    }
+}
+
 /// Whether the end is all that is left.
 pub fn is_end(tokens: &[Token]) -> bool
     ensures { result ≡ (spec.is_end (spec.first_kind tokens.now) && length tokens.now == 1) }
@@ -352,47 +378,11 @@ pub fn is_end(tokens: &[Token]) -> bool
     matches!(&token.kind, TokenKind::End)
 }
 
-fn is_dot(tokens: &[Token]) -> bool
-    ensures { result ≡ is_dot (spec.first_kind tokens.now) }
-{
-    let [token, ..] = tokens else {
-        return false;
-    };
-    matches!(&token.kind, TokenKind::Mark(Mark::Dot))
-}
-
-fn is_each(tokens: &[Token]) -> bool
-    ensures { result ≡ is_each (spec.first_kind tokens.now) }
-{
-    let [token, ..] = tokens else {
-        return false;
-    };
-    matches!(&token.kind, TokenKind::Word(Word::Each))
-}
-
-fn is_open(tokens: &[Token]) -> bool
-    ensures { result ≡ spec.is_open (spec.first_kind tokens.now) }
-{
-    let [token, ..] = tokens else {
-        return false;
-    };
-    matches!(&token.kind, TokenKind::Mark(Mark::Open))
-}
-
-fn is_close(tokens: &[Token]) -> bool
-    ensures { result ≡ spec.is_close (spec.first_kind tokens.now) }
-{
-    let [token, ..] = tokens else {
-        return false;
-    };
-    matches!(&token.kind, TokenKind::Mark(Mark::Close))
-}
-
 fn has_step(tokens: &[Token]) -> bool
     ensures { result ≡ spec.has_step tokens.now }
 {
-    if !is_dot(tokens) {
+    if !is_mark(Mark::Dot, tokens) {
         return false;
     }
-    !is_each(rest_of(tokens))
+    !is_word(Word::Each, rest_of(tokens))
 }

@@ -106,19 +106,57 @@ fn rows(rt: HostRuntime) -> Result<(), Fail> {
     Ok(())
 }
 
+/// What stands behind 199 `!`, `a` and a space, and the fault then: a 201st token that is no token has its own one.
+const BEHIND_200_TOKENS: [(&str, Option<ExprFault>); 9] = [
+    ("", None),
+    ("!", Some(ExprFault::TooDeep { at: 201 })),
+    ("b", Some(ExprFault::TooDeep { at: 201 })),
+    ("1", Some(ExprFault::TooDeep { at: 201 })),
+    (
+        "9223372036854775808",
+        Some(ExprFault::NumberTooLarge { at: 201 }),
+    ),
+    ("$", Some(ExprFault::Unexpected { at: 201 })),
+    ("\"a", Some(ExprFault::Unclosed { at: 201 })),
+    ("\"\\q\"", Some(ExprFault::Unexpected { at: 202 })),
+    ("\"#{\"", Some(ExprFault::Unexpected { at: 202 })),
+];
+
 #[test]
 fn at_most_200_tokens(rt: HostRuntime) -> Result<(), Fail> {
-    let mut text = Vec::new(rt.alloc());
-    for _ in 0..199 {
-        text.push(b'!')?;
+    for (behind, expected) in &BEHIND_200_TOKENS {
+        let mut text = Vec::new(rt.alloc());
+        for _ in 0..199 {
+            text.push(b'!')?;
+        }
+        text.extend_from_slice(b"a ")?;
+        text.extend_from_slice(behind.as_bytes())?;
+        if text.len() > 262_144 {
+            return Err(Fail::from("a row is short"));
+        }
+        let fault = parse_expr_bytes(rt.alloc(), text.as_slice()).err();
+        assert_eq!(rt; fault, *expected);
     }
-    text.push(b'a')?;
-    if text.len() > 201 {
-        return Err(Fail::from("the text is short"));
-    }
-    assert!(rt; parse_expr_bytes(rt.alloc(), text.as_slice()).is_ok());
-    text.push(b'!')?;
-    let fault = parse_expr_bytes(rt.alloc(), text.as_slice()).err();
-    assert_eq!(rt; fault, Some(ExprFault::TooDeep { at: 200 }));
+    Ok(())
+}
+
+fn copied<T: Copied>(alloc: Global, value: &T) -> Result<T, Memory> {
+    value.copy(alloc)
+}
+
+#[test]
+fn copies_and_lists_of_them(rt: HostRuntime) -> Result<(), Memory> {
+    let alloc = rt.alloc();
+    let text = copied(alloc, &Text::from_bytes(alloc, b"a\n")?)?;
+    let bytes = copied(alloc, &Bytes::from_vec(Vec::from_slice(alloc, &[0, 255])?))?;
+    let ids = copied(alloc, &Ids::from_slice(alloc, &[3, 1])?)?;
+    let mut names = Items::new(alloc);
+    names.push(Name::from_bytes(alloc, b"b")?)?;
+    names.push(copied(alloc, &Name::from_bytes(alloc, b"c")?)?)?;
+    let names = copied(alloc, &names)?;
+    assert!(rt; text.as_bytes() == b"a\n".as_slice());
+    assert!(rt; bytes.as_slice() == [0, 255].as_slice());
+    assert!(rt; ids.as_slice() == [3, 1].as_slice());
+    assert_eq!(rt; names.len(), 2);
     Ok(())
 }

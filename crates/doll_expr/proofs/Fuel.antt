@@ -1,4 +1,4 @@
--- One turn of the reading, whatever number of turns is left, if it is large enough.
+-- One step of the reading, however much fuel is left, if it is enough.
 use Rattle.std.proofs.Common.{◌≡◌, ℕ, zero, suc, ◌≤◌, true, false, not, ◌&&◌, List, [], ◌∷◌, ◌++◌, drop, Option, Some, None, Ok, Err, refl, ap, arith}
 use Rattle.doll_expr.specs.declared.expr.Expr.{Expr}
 use Rattle.doll_expr.specs.declared.expr.Expr.TheVariants as e
@@ -22,7 +22,7 @@ alike_append [] r s h = h
 alike_append (t ∷ []) r s h = record { first = refl; step = ap (λ k. is_dot t.kind && not (is_each k)) h.first }
 alike_append (t ∷ v ∷ u) r s h = record { first = refl; step = refl }
 
--- a reading gives this with so many turns, and with more
+-- a reading gives this with so much fuel, and with more
 abbrev pub From : ℕ → (ℕ → Read) → Read → Type 0
 From n R y = (k : ℕ) → n ≤ k → R k ≡ y
 
