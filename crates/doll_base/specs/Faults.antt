@@ -43,3 +43,12 @@ after_call plan = record {
   calls = next_call plan.calls;
   faults = if is_due plan then plan.faults + 1 else plan.faults;
 }
+
+-- The plan after the next call where that fails, planned or not. Where it is planned, this is the plan after the call.
+abbrev pub after_failure : Plan → Plan
+after_failure plan = record {
+  failing = plan.failing;
+  fuse = plan.fuse;
+  calls = next_call plan.calls;
+  faults = plan.faults + 1;
+}

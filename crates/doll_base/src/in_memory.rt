@@ -1,7 +1,8 @@
-//! A source, a sink and a clock in memory, which tell all that they hold and fail where they are told to.
+//! A source and a sink in memory, which tell all that they hold and fail where they are told to, and a clock that was
+//! given its readings and never fails.
 
 ghost use Rattle.std.specs.Prelude.{◌≡◌, ◌<◌, ◌≤◌, ◌↔◌, ◌∷◌, ◌++◌, [], length, take, min, Some, None, IfOk, OnOk, OnErr, IsErr, IsTrue, vec_len};
-ghost use Rattle.doll_base.specs.Faults.{Rose, KeepsCount, is_due, after_call};
+ghost use Rattle.doll_base.specs.Faults.{Rose, KeepsCount, is_due, after_call, after_failure};
 ghost use Rattle.doll_base.specs.Streams.{Took, IsAtEnd, Appended};
 ghost use Rattle.doll_base.specs.Memories.{given_count};
 ghost use Rattle.doll_base.specs.Readings.{reading_at};
@@ -139,9 +140,12 @@ impl Sink for MemSink {
         ensures taken { IfOk result (λ n. n ≡ min self.old.piece (length from.now)) }
         ensures due { IsTrue (is_due self.old.plan) → IsErr result }
         ensures plan { OnOk result (self.new.plan ≡ after_call self.old.plan) }
+        // One call and one fault more, whether the failure was planned or no memory was found.
+        ensures failure { OnErr result (self.new.plan ≡ after_failure self.old.plan) }
         ensures piece { self.new.piece ≡ self.old.piece }
     {
         if self.plan.fails() {
+            // A call that fails takes nothing.
             return Err(WriteFault);
         }
         let count = self.piece.min(from.len());

@@ -1,6 +1,6 @@
 //! Sources of bytes.
 
-ghost use Rattle.std.specs.Prelude.{◌≡◌, ◌+◌, ◌^◌, ◌<◌, ◌≤◌, length, take, vec_len, IfOk, OnErr, IfSome, IsErrOf, Option};
+ghost use Rattle.std.specs.Prelude.{◌≡◌, ◌+◌, ◌<◌, ◌≤◌, length, take, vec_len, IfOk, OnErr, IfSome, IsErrOf, Option};
 ghost use Rattle.std.specs.Prelude.{ℕ, List};
 ghost use Rattle.doll_base.specs.Faults.{Rose, KeepsCount, HasCause};
 ghost use Rattle.doll_base.specs.Inputs.{read_up_to, GivesInput};
@@ -43,7 +43,6 @@ pub fn read_all<S: Source>(
     source: &mut S,
     most: usize,
 ) -> Result<Vec<u8>, InputFault>
-    requires { most < 2 ^ 62 }
     ensures told { IfSome (S.left source.old) (λ bytes. GivesInput (read_up_to most bytes) result) }
     ensures within { IfOk result (λ bytes. vec_len bytes ≤ most) }
     ensures bytes { IfOk result (λ bytes. Took (S.left source.old) (S.left source.new) bytes.items) }
@@ -56,7 +55,7 @@ pub fn read_all<S: Source>(
     let mut bytes = Vec::new(alloc);
     let mut piece = [0; PIECE];
     while bytes.len() <= most {
-        let room = PIECE.min(most + 1 - bytes.len());
+        let room = PIECE.min((most - bytes.len()).saturating_add(1));
         let count = read_piece(source, &mut piece[..room], &mut bytes)?;
         if count == 0 {
             return Ok(bytes);

@@ -18,9 +18,6 @@ use std::rt::Files;
 use std::time::{Duration, SystemTime};
 use std::{fs, io, rt};
 
-/// The most bytes that are read of a file, however many are allowed.
-const LONGEST: usize = (1 << 62) - 1;
-
 /// A reader as a source. Each error but an interruption counts as a fault.
 #[derive(Drop)]
 pub struct StdSource<R> {
@@ -173,7 +170,7 @@ impl<R: Files> Folder for DirFolder<R> {
         let fault = match open_file(&self.files, path.as_path()) {
             Ok(file) => {
                 let mut source = StdSource::new(file);
-                match read_all(alloc, &mut source, most.min(LONGEST)) {
+                match read_all(alloc, &mut source, most) {
                     Ok(bytes) => return Ok(bytes),
                     Err(InputFault::TooLong) => FolderFault::TooLong,
                     Err(InputFault::Memory) => FolderFault::Memory,

@@ -1,9 +1,50 @@
 use crate::*;
+use std::io::{Error, ErrorKind, Read, Result as IoResult, Write};
 use std::test::Fail;
 use std::{env, fs};
 
 /// A name of a file that nobody else has.
 const NAME: &str = "doll_base_reads_this_file";
+
+/// A reader and a writer that is interrupted in its first calls, serves in the next ones, a byte at each, and then fails.
+#[derive(Drop)]
+struct Failing {
+    interrupted: usize,
+    serving: usize,
+}
+
+impl Failing {
+    /// Makes one call, which has a byte or fails.
+    fn call(&mut self) -> IoResult<()> {
+        if self.interrupted > 0 {
+            self.interrupted -= 1;
+            return Err(Error::from(ErrorKind::Interrupted));
+        }
+        if self.serving == 0 {
+            return Err(Error::from(ErrorKind::BrokenPipe));
+        }
+        self.serving -= 1;
+        Ok(())
+    }
+}
+
+impl Read for Failing {
+    fn read(&mut self, into: &mut [u8]) -> IoResult<usize> {
+        self.call()?;
+        Ok(into.len().min(1))
+    }
+}
+
+impl Write for Failing {
+    fn write(&mut self, from: &[u8]) -> IoResult<usize> {
+        self.call()?;
+        Ok(from.len().min(1))
+    }
+
+    fn flush(&mut self) -> IoResult<()> {
+        Ok(())
+    }
+}
 
 #[test]
 fn all_bytes_come_and_go_in_pieces(rt: HostRuntime) -> Result<(), Fail> {
@@ -32,6 +73,35 @@ fn readers_and_writers_serve_as_sources_and_sinks(rt: HostRuntime) -> Result<(),
     let mut room = [0; 4];
     let mut full = StdSink::new(room.as_mut_slice());
     assert_eq!(rt; write_whole(&mut full, text), Err(WriteFault));
+    Ok(())
+}
+
+#[test]
+fn an_interrupted_call_is_made_again_and_a_failed_one_is_a_fault(
+    rt: HostRuntime,
+) -> Result<(), Fail> {
+    let mut source = StdSource::new(Failing {
+        interrupted: 2,
+        serving: 1,
+    });
+    let mut room = [7; 4];
+    assert_eq!(rt; source.read(&mut room), Ok(1));
+    assert_eq!(rt; source.read(&mut room), Err(ReadFault));
+    let mut sink = StdSink::new(Failing {
+        interrupted: 2,
+        serving: 2,
+    });
+    assert_eq!(rt; write_whole(&mut sink, b"ab"), Ok(()));
+    assert_eq!(rt; write_whole(&mut sink, b"c"), Err(WriteFault));
+    let alloc = rt.alloc();
+    let mut broken = StdSource::new(Failing {
+        interrupted: 1,
+        serving: 3,
+    });
+    assert_eq!(rt;
+        read_all(alloc, &mut broken, 100).err(),
+        Some(InputFault::Failed)
+    );
     Ok(())
 }
 
