@@ -43,6 +43,23 @@ pub fn apply(
     // A record that differs has the commit's moment, and so has each living touch parent of it, before and after.
     ensures moments { IfOk result (λ applied. CarriesMoment schema.now table.now applied.table commit.now.moment) }
 {
+    apply_to(alloc, table.copy(alloc)?, schema, commit)
+}
+
+/// Makes a commit on the table itself, of which nothing is copied, or tells its first refused change. The table is used
+/// up in either case: who wants it after a refusal takes `apply`.
+pub fn apply_to(
+    alloc: Global,
+    table: Table,
+    schema: &Schema,
+    commit: &Commit,
+) -> Result<Applied, CommitFault>
+    requires { Fits schema.now table }
+    ensures exact { Gives CommitFault.Memory (commit_of table schema.now commit.now) result }
+    ensures fits { IfOk result (λ applied. Fits schema.now applied.table) }
+    // As of `apply`.
+    ensures moments { IfOk result (λ applied. CarriesMoment schema.now table applied.table commit.now.moment) }
+{
     if commit.changes.len() > MOST_CHANGES {
         return Err(CommitFault::Refused {
             index: 1000,
@@ -58,20 +75,20 @@ pub fn apply(
     Ok(finish(alloc, schema, commit.moment, table, touched, ids)?)
 }
 
-/// A course from a copy of the table, with changes made in order.
+/// The course of a table with changes made in order.
 fn made_course(
     alloc: Global,
-    table: &Table,
+    table: Table,
     schema: &Schema,
     changes: &[Change],
 ) -> Result<Course, CommitFault>
-    requires fits { Fits schema.now table.now }
+    requires fits { Fits schema.now table }
     requires few { length changes.now ≤ 1000 }
-    ensures exact { MatchResult result (ComesTo (all_made schema.now 0 (start table.now) changes.now)) (IsRefused (all_made schema.now 0 (start table.now) changes.now)) }
+    ensures exact { MatchResult result (ComesTo (all_made schema.now 0 (start table) changes.now)) (IsRefused (all_made schema.now 0 (start table) changes.now)) }
     ensures fits { IfOk result (λ course. Fits schema.now course.table) }
 {
     let mut course = Course {
-        table: table.copy(alloc)?,
+        table,
         touched: Refs::new(alloc),
         ids: Ids::new(alloc),
     };
