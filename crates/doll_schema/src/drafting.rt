@@ -6,7 +6,7 @@ ghost use Rattle.std.specs.Str.{bytes_eq};
 ghost use Rattle.serde_json.specs.Find.{get};
 ghost use Rattle.serde_json.specs.View.{items_view, view};
 ghost use Rattle.doll_expr.specs.Gives.{Gives};
-ghost use Rattle.doll_schema.specs.Limits.{HasFewLinks, AreWithinLimits};
+ghost use Rattle.doll_schema.specs.Limits.{HasFewDrafts, AreDraftsWithinLimits};
 ghost use Rattle.doll_schema.specs.Drafts.{attribute_of, attributes_from, parent_of, parents_from, many_of, manys_from, attributes_of, parents_of, manys_of, own_name, model_of, model_with, models_from, drafts_of, name_at, kind_named, destroy_named, destroy_if_given, is_taken, is_model, is_plural, has_model_keys, model_items, place};
 
 use crate::draft::{ManyDraft, ManyDrafts, ModelDraft, ModelDrafts, ParentDraft, ParentDrafts};
@@ -20,7 +20,7 @@ use std::alloc::Global;
 /// All models, or the first fault that one of them has by itself.
 pub fn drafts_of(alloc: Global, json: &Value) -> Result<ModelDrafts, SchemaFault>
     ensures exact { Gives SchemaFault.Memory (drafts_of (view json.now)) result }
-    ensures room { IfOk result AreWithinLimits }
+    ensures room { IfOk result AreDraftsWithinLimits }
 {
     let Some(items) = model_items(json) else {
         return Err(SchemaFault::BadForm {
@@ -47,7 +47,7 @@ fn model_items(json: &Value) -> Option<&[Value]>
 
 fn models_of(alloc: Global, items: &[Value]) -> Result<ModelDrafts, SchemaFault>
     ensures exact { Gives SchemaFault.Memory (models_from [] (items_view items.now)) result }
-    ensures room { IfOk result AreWithinLimits }
+    ensures room { IfOk result AreDraftsWithinLimits }
 {
     let mut models = Items::new(alloc);
     for item in items {
@@ -61,7 +61,7 @@ fn model_of(alloc: Global, earlier: &[ModelDraft], json: &Value) -> Result<Model
     requires { length earlier.now ≤ 32 }
     ensures exact { Gives SchemaFault.Memory (model_of earlier.now (view json.now)) result }
     ensures room { OnOk result (length earlier.now < 32) }
-    ensures few { IfOk result HasFewLinks }
+    ensures few { IfOk result HasFewDrafts }
 {
     let number = earlier.len() as u32;
     if !has_model_keys(json) {
@@ -88,7 +88,7 @@ fn model_with(
     json: &Value,
 ) -> Result<ModelDraft, SchemaFault>
     ensures exact { Gives SchemaFault.Memory (model_with model name plural (view json.now)) result }
-    ensures few { IfOk result HasFewLinks }
+    ensures few { IfOk result HasFewDrafts }
 {
     let attributes = model_attributes(alloc, model, json)?;
     let belongs_to = model_parents(alloc, model, attributes.as_slice(), json)?;
@@ -174,7 +174,8 @@ pub fn name_at<'a>(json: &'a Value, key: &str) -> Option<&'a str>
 }
 
 fn model_attributes(alloc: Global, model: u32, json: &Value) -> Result<Attributes, SchemaFault>
-    ensures { Gives SchemaFault.Memory (attributes_of model (view json.now)) result }
+    ensures exact { Gives SchemaFault.Memory (attributes_of model (view json.now)) result }
+    ensures few { IfOk result (λ attributes. length attributes ≤ 32) }
 {
     let Some(items) = list_at(json, "attributes") else {
         return Err(SchemaFault::BadForm {

@@ -1,10 +1,10 @@
 //! Looking up what models refer to.
 
-ghost use Rattle.std.specs.Prelude.{◌≡◌, ◌<◌, ◌≤◌, ◌&&◌, ◌==◌, ◌++◌, [], length, IfSome};
+ghost use Rattle.std.specs.Prelude.{◌≡◌, ◌<◌, ◌≤◌, ◌&&◌, ◌==◌, ◌++◌, [], length, IfOk, IfSome};
 ghost use Rattle.std.specs.Str.{bytes_eq};
 ghost use Rattle.doll_expr.specs.Gives.{Gives};
 ghost use Rattle.doll_schema.specs.Drafts.{place};
-ghost use Rattle.doll_schema.specs.Limits.{HasFewLinks, AreWithinLimits};
+ghost use Rattle.doll_schema.specs.Limits.{HasFewDrafts, HasFewParts, AreDraftsWithinLimits, AreWithinLimits};
 ghost use Rattle.doll_schema.specs.Schemas.{model_named, parent_named, inverse_named, has_inverse, belongs_to_of, has_many_of, belongs_to_from, has_many_from, linked_model, linked_from};
 
 use crate::draft::{ManyDraft, ModelDraft, ParentDraft};
@@ -15,8 +15,9 @@ use std::alloc::Global;
 
 /// All models with their associations looked up, or the first fault of these.
 pub fn linked(alloc: Global, drafts: &[ModelDraft]) -> Result<Models, SchemaFault>
-    requires { AreWithinLimits drafts.now }
-    ensures { Gives SchemaFault.Memory (linked_from drafts.now [] drafts.now) result }
+    requires { AreDraftsWithinLimits drafts.now }
+    ensures exact { Gives SchemaFault.Memory (linked_from drafts.now [] drafts.now) result }
+    ensures limits { IfOk result AreWithinLimits }
 {
     let mut models = Items::new(alloc);
     for (number, draft) in drafts.iter().enumerate() {
@@ -32,9 +33,10 @@ fn linked_model(
     number: u32,
     draft: &ModelDraft,
 ) -> Result<Model, SchemaFault>
-    requires models { AreWithinLimits models.now }
-    requires few { HasFewLinks draft.now }
-    ensures { Gives SchemaFault.Memory (linked_model models.now number draft.now) result }
+    requires models { AreDraftsWithinLimits models.now }
+    requires few { HasFewDrafts draft.now }
+    ensures exact { Gives SchemaFault.Memory (linked_model models.now number draft.now) result }
+    ensures few { IfOk result HasFewParts }
 {
     let belongs_to = linked_parents(alloc, models, number, draft.belongs_to.as_slice())?;
     let own = draft.name.as_bytes();
@@ -54,9 +56,10 @@ fn linked_parents(
     number: u32,
     drafts: &[ParentDraft],
 ) -> Result<Parents, SchemaFault>
-    requires models { AreWithinLimits models.now }
+    requires models { AreDraftsWithinLimits models.now }
     requires few { length drafts.now ≤ 8 }
-    ensures { Gives SchemaFault.Memory (belongs_to_from models.now number [] drafts.now) result }
+    ensures exact { Gives SchemaFault.Memory (belongs_to_from models.now number [] drafts.now) result }
+    ensures few { IfOk result (λ parents. length parents ≤ 8) }
 {
     let mut parents = Items::new(alloc);
     for draft in drafts {
@@ -77,7 +80,7 @@ fn belongs_to_of(
     at: Place,
     draft: &ParentDraft,
 ) -> Result<BelongsTo, SchemaFault>
-    requires { AreWithinLimits models.now }
+    requires { AreDraftsWithinLimits models.now }
     ensures { Gives SchemaFault.Memory (belongs_to_of models.now at draft.now) result }
 {
     let Some(model) = model_named(models, draft.model.as_bytes()) else {
@@ -92,7 +95,7 @@ fn belongs_to_of(
 }
 
 fn model_named(models: &[ModelDraft], name: &[u8]) -> Option<u16>
-    requires { AreWithinLimits models.now }
+    requires { AreDraftsWithinLimits models.now }
     ensures { result ≡ model_named models.now name.now }
 {
     for (number, model) in models.iter().enumerate() {
@@ -110,9 +113,10 @@ fn linked_manys(
     own: &[u8],
     drafts: &[ManyDraft],
 ) -> Result<Manys, SchemaFault>
-    requires models { AreWithinLimits models.now }
+    requires models { AreDraftsWithinLimits models.now }
     requires few { length drafts.now ≤ 8 }
-    ensures { Gives SchemaFault.Memory (has_many_from models.now number own.now [] drafts.now) result }
+    ensures exact { Gives SchemaFault.Memory (has_many_from models.now number own.now [] drafts.now) result }
+    ensures few { IfOk result (λ manys. length manys ≤ 8) }
 {
     let mut manys = Items::new(alloc);
     for draft in drafts {
@@ -135,7 +139,7 @@ fn has_many_of(
     earlier: &[HasMany],
     draft: &ManyDraft,
 ) -> Result<HasMany, SchemaFault>
-    requires { AreWithinLimits models.now }
+    requires { AreDraftsWithinLimits models.now }
     ensures { Gives SchemaFault.Memory (has_many_of models.now own.now at earlier.now draft.now) result }
 {
     let Some(model) = model_named(models, draft.model.as_bytes()) else {
@@ -156,7 +160,7 @@ fn has_many_of(
 }
 
 fn inverse_named(models: &[ModelDraft], child: u16, own: &[u8], name: &[u8]) -> Option<u16>
-    requires { AreWithinLimits models.now }
+    requires { AreDraftsWithinLimits models.now }
     ensures { result ≡ inverse_named models.now child own.now name.now }
 {
     let child = models.get(child as usize)?;

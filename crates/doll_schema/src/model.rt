@@ -3,6 +3,7 @@
 ghost use Rattle.std.specs.Prelude.{◌≡◌, IfOk};
 ghost use Rattle.serde_json.specs.View.{view};
 ghost use Rattle.doll_expr.specs.Gives.{Gives};
+ghost use Rattle.doll_schema.specs.Limits.{AreWithinLimits};
 ghost use Rattle.doll_schema.specs.Schemas.{schema_of};
 
 use crate::drafting::drafts_of;
@@ -79,9 +80,11 @@ pub struct Schema {
 
 impl Schema {
     /// The schema that the JSON value is, or its first fault: first each model's own, in the order of the models and of
-    /// `Part`, then those of what they refer to.
+    /// `Part`, then those of what they refer to. It has at most 32 models, and each of these at most 32 attributes, 8
+    /// associations to parents and 8 to children.
     pub fn read(alloc: Global, json: &serde_json::Value) -> Result<Schema, SchemaFault>
-        ensures { Gives SchemaFault.Memory (schema_of (view json.now)) result }
+        ensures exact { Gives SchemaFault.Memory (schema_of (view json.now)) result }
+        ensures limits { IfOk result (λ schema. AreWithinLimits schema.models) }
     {
         let drafts = drafts_of(alloc, json)?;
         let models = linked(alloc, drafts.as_slice())?;

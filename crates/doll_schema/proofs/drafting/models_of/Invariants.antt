@@ -1,7 +1,7 @@
 use Rattle.std.proofs.Common.{◌≡◌, ◌≤◌, [], length, drop, All}
 use Rattle.serde_json.specs.View.{items_view}
 use Rattle.doll_schema.specs.Drafts.{models_from}
-use Rattle.doll_schema.specs.Limits.{HasFewLinks}
+use Rattle.doll_schema.specs.Limits.{HasFewDrafts}
 use Rattle.doll_schema.proofs.drafting.models_of.Given as goal
 
 -- what is read and what is left give the whole
@@ -9,5 +9,5 @@ abbrev pub invariant-loop-item : goal.invariant-loop-item
 invariant-loop-item l = record {
   so_far : models_from l.models (items_view (drop l.item-index l.items)) ≡ models_from [] (items_view l.items);
   count : length l.models ≤ 32;
-  few : All HasFewLinks l.models;
+  few : All HasFewDrafts l.models;
 }
