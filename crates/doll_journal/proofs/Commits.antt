@@ -3,6 +3,7 @@ use Rattle.std.proofs.Common.{◌≡◌, ℕ, zero, suc, ◌+◌, ◌^◌, ◌<�
 use Rattle.std.specs.Prelude.{nat_le, ◌==◌, FitsSigned, IfOk}
 use Rattle.std.specs.Int.{w32, w64, to_be_bytes, cast_signed, cast_unsigned}
 use Rattle.std.specs.List.{flat_map, AllByRecursion}
+use Rattle.std.specs.Str.{IsUtf8}
 use Rattle.std.proofs.lemmas.Bool.{eqb-true, leb-true, le-leb, ne_eqb}
 use Rattle.std.proofs.lemmas.Int.{of_z-to_z, to_z-of_z}
 use Rattle.std.proofs.Math.Facts.{Fits-lt-pow, Fits-of_lt, Fits-of_z, sfits_to_z}
@@ -17,7 +18,7 @@ use Rattle.doll_journal.specs.declared.change.Change.TheVariants as changes
 use Rattle.doll_journal.specs.declared.change.Commit.{Commit}
 use Rattle.doll_journal.specs.declared.fault.JournalFault.{JournalFault}
 use Rattle.doll_journal.specs.declared.fault.JournalFault.TheVariants.{TooLarge, BadTag, Trailing}
-use Rattle.doll_journal.specs.Reading.{Field, place, byte_at, number_at, text_at, tagged_value, value_at, pair_at, repeated, given_at, create_at, update_at, destroy_at, touch_at, tagged_change, change_at, changes_at, commit_at, commit_of}
+use Rattle.doll_journal.specs.Reading.{Field, place, byte_at, number_at, text_at, tagged_value, value_at, pair_at, repeated, given_at, create_at, update_at, mark_at, tagged_change, change_at, changes_at, commit_at, commit_of}
 use Rattle.doll_journal.specs.Spelling.{text_bytes, value_bytes, pair_bytes, given_bytes, change_bytes, changes_bytes, spelling}
 use Rattle.doll_journal.specs.Storable.{FitsValue, FitsPair, FitsChange, IsStorable, OneSpelling}
 use Rattle.doll_journal.proofs.Fields.{IsBytes, bind_ok, check_ok, ok_is, Takes, Takes-then, Takes-tagged, wide32, wide64, byte_takes, number_takes, number_again, text_takes, text_again}
@@ -197,25 +198,34 @@ update_takes total all bytes x fits e front =
     subst (Took change_bytes FitsChange all) (ok_is (changes.Update a.0.0 b.0.0 d.0.0, d.0.1) x d.2)
     (Takes-tagged 2 all bytes (text_bytes a.0.0 ++ (to_be_bytes w32 b.0.0 ++ given_bytes d.0.0)) d.0.1 front both, (t.1, u.1, v.1))
 
-destroy_takes : (total : ℕ) (all bytes : List ℕ) (x : Change × List ℕ) → IsBytes bytes → destroy_at total bytes ≡ Ok x → TookTagged change_bytes FitsChange all 3 bytes x
-unfolding destroy_at
-destroy_takes total all bytes x fits e front =
-    let a = bind_ok (text_at total bytes) (λ model. number_at w32 total model.1 >>= (λ id. Ok (changes.Destroy model.0 id.0, id.1))) x e in
-    let b = bind_ok (number_at w32 total a.0.1) (λ id. Ok (changes.Destroy a.0.0 id.0, id.1)) x a.2 in
-    let t = text_takes total bytes a.0.0 a.0.1 fits a.1 in
-    let u = number_takes w32 (2 ^ 32) wide32 total a.0.1 b.0.0 b.0.1 t.0.rest_fits b.1 in
-    let both = Takes-then bytes (text_bytes a.0.0) a.0.1 (to_be_bytes w32 b.0.0) b.0.1 t.0 u.0 in
-    subst (Took change_bytes FitsChange all) (ok_is (changes.Destroy a.0.0 b.0.0, b.0.1) x b.2) (Takes-tagged 3 all bytes (text_bytes a.0.0 ++ to_be_bytes w32 b.0.0) b.0.1 front both, (t.1, u.1))
+-- a model's name and an id
+abbrev mark_bytes : List ℕ × ℕ → List ℕ
+mark_bytes mark = text_bytes mark.0 ++ to_be_bytes w32 mark.1
 
-touch_takes : (total : ℕ) (all bytes : List ℕ) (x : Change × List ℕ) → IsBytes bytes → touch_at total bytes ≡ Ok x → TookTagged change_bytes FitsChange all 4 bytes x
-unfolding touch_at
-touch_takes total all bytes x fits e front =
-    let a = bind_ok (text_at total bytes) (λ model. number_at w32 total model.1 >>= (λ id. Ok (changes.Touch model.0 id.0, id.1))) x e in
-    let b = bind_ok (number_at w32 total a.0.1) (λ id. Ok (changes.Touch a.0.0 id.0, id.1)) x a.2 in
+abbrev FitsMark : List ℕ × ℕ → Type 0
+FitsMark mark = IsUtf8 mark.0 × (mark.1 < 2 ^ 32)
+
+mark_takes : (total : ℕ) (bytes : List ℕ) (x : (List ℕ × ℕ) × List ℕ) → IsBytes bytes → mark_at total bytes ≡ Ok x → Took mark_bytes FitsMark bytes x
+unfolding mark_at
+mark_takes total bytes x fits e =
+    let a = bind_ok (text_at total bytes) (λ model. number_at w32 total model.1 >>= (λ id. Ok ((model.0, id.0), id.1))) x e in
+    let b = bind_ok (number_at w32 total a.0.1) (λ id. Ok ((a.0.0, id.0), id.1)) x a.2 in
     let t = text_takes total bytes a.0.0 a.0.1 fits a.1 in
     let u = number_takes w32 (2 ^ 32) wide32 total a.0.1 b.0.0 b.0.1 t.0.rest_fits b.1 in
     let both = Takes-then bytes (text_bytes a.0.0) a.0.1 (to_be_bytes w32 b.0.0) b.0.1 t.0 u.0 in
-    subst (Took change_bytes FitsChange all) (ok_is (changes.Touch a.0.0 b.0.0, b.0.1) x b.2) (Takes-tagged 4 all bytes (text_bytes a.0.0 ++ to_be_bytes w32 b.0.0) b.0.1 front both, (t.1, u.1))
+    subst (Took mark_bytes FitsMark bytes) (ok_is ((a.0.0, b.0.0), b.0.1) x b.2) (both, (t.1, u.1))
+
+destroy_takes : (total : ℕ) (all bytes : List ℕ) (x : Change × List ℕ) → IsBytes bytes → (mark_at total bytes >>= (λ m. Ok (changes.Destroy m.0.0 m.0.1, m.1))) ≡ Ok x → TookTagged change_bytes FitsChange all 3 bytes x
+destroy_takes total all bytes x fits e front =
+    let a = bind_ok (mark_at total bytes) (λ m. Ok (changes.Destroy m.0.0 m.0.1, m.1)) x e in
+    let t = mark_takes total bytes a.0 fits a.1 in
+    subst (Took change_bytes FitsChange all) (ok_is (changes.Destroy a.0.0.0 a.0.0.1, a.0.1) x a.2) (Takes-tagged 3 all bytes (mark_bytes a.0.0) a.0.1 front t.0, t.1)
+
+touch_takes : (total : ℕ) (all bytes : List ℕ) (x : Change × List ℕ) → IsBytes bytes → (mark_at total bytes >>= (λ m. Ok (changes.Touch m.0.0 m.0.1, m.1))) ≡ Ok x → TookTagged change_bytes FitsChange all 4 bytes x
+touch_takes total all bytes x fits e front =
+    let a = bind_ok (mark_at total bytes) (λ m. Ok (changes.Touch m.0.0 m.0.1, m.1)) x e in
+    let t = mark_takes total bytes a.0 fits a.1 in
+    subst (Took change_bytes FitsChange all) (ok_is (changes.Touch a.0.0.0 a.0.0.1, a.0.1) x a.2) (Takes-tagged 4 all bytes (mark_bytes a.0.0) a.0.1 front t.0, t.1)
 
 unlisted_change : (total at tag : ℕ) (bytes : List ℕ) → (tag ≡ 0) ⊎ (5 ≤ tag) → tagged_change total at tag bytes ≡ Err (BadTag at)
 unfolding tagged_change
@@ -263,30 +273,22 @@ update_again total model id given rest fits lt =
     ap (update_at total) regrouped
     ∙ rw (text_again total model (to_be_bytes w32 id ++ (given_bytes given ++ rest)) fits.0 name, number_again w32 (2 ^ 32) wide32 total id (given_bytes given ++ rest) fits.1, given_again total given rest fits.2 values) refl
 
-destroy_again : (total : ℕ) (model : List ℕ) (id : ℕ) (rest : List ℕ) → FitsChange (changes.Destroy model id) → length (change_bytes (changes.Destroy model id)) < 2 ^ 32
-    → destroy_at total ((text_bytes model ++ to_be_bytes w32 id) ++ rest) ≡ Ok (changes.Destroy model id, rest)
-unfolding destroy_at
-destroy_again total model id rest fits lt =
+mark_again : (total : ℕ) (model : List ℕ) (id : ℕ) (rest : List ℕ) → FitsMark (model, id) → length (mark_bytes (model, id)) < 2 ^ 32 → mark_at total (mark_bytes (model, id) ++ rest) ≡ Ok ((model, id), rest)
+unfolding mark_at
+mark_again total model id rest fits lt =
     let both = length-append (text_bytes model) (to_be_bytes w32 id) in
     let name : length model < 2 ^ 32 = omega (arith, both, length-append (to_be_bytes w32 (length model)) model) in
-    ap (destroy_at total) (append_assoc (text_bytes model) (to_be_bytes w32 id) rest)
-    ∙ rw (text_again total model (to_be_bytes w32 id ++ rest) fits.0 name, number_again w32 (2 ^ 32) wide32 total id rest fits.1) refl
-
-touch_again : (total : ℕ) (model : List ℕ) (id : ℕ) (rest : List ℕ) → FitsChange (changes.Touch model id) → length (change_bytes (changes.Touch model id)) < 2 ^ 32
-    → touch_at total ((text_bytes model ++ to_be_bytes w32 id) ++ rest) ≡ Ok (changes.Touch model id, rest)
-unfolding touch_at
-touch_again total model id rest fits lt =
-    let both = length-append (text_bytes model) (to_be_bytes w32 id) in
-    let name : length model < 2 ^ 32 = omega (arith, both, length-append (to_be_bytes w32 (length model)) model) in
-    ap (touch_at total) (append_assoc (text_bytes model) (to_be_bytes w32 id) rest)
+    ap (mark_at total) (append_assoc (text_bytes model) (to_be_bytes w32 id) rest)
     ∙ rw (text_again total model (to_be_bytes w32 id ++ rest) fits.0 name, number_again w32 (2 ^ 32) wide32 total id rest fits.1) refl
 
 change_again : (total : ℕ) (c : Change) (rest : List ℕ) → FitsChange c → length (change_bytes c) < 2 ^ 32 → change_at total (change_bytes c ++ rest) ≡ Ok (c, rest)
 unfolding change_at tagged_change
 change_again total (changes.Create model given) rest fits lt = create_again total model given rest fits lt
 change_again total (changes.Update model id given) rest fits lt = update_again total model id given rest fits lt
-change_again total (changes.Destroy model id) rest fits lt = destroy_again total model id rest fits lt
-change_again total (changes.Touch model id) rest fits lt = touch_again total model id rest fits lt
+change_again total (changes.Destroy model id) rest fits lt =
+    ap (λ (r : Field (List ℕ × ℕ)). r >>= (λ m. Ok (changes.Destroy m.0.0 m.0.1, m.1))) (mark_again total model id rest fits (omega arith))
+change_again total (changes.Touch model id) rest fits lt =
+    ap (λ (r : Field (List ℕ × ℕ)). r >>= (λ m. Ok (changes.Touch m.0.0 m.0.1, m.1))) (mark_again total model id rest fits (omega arith))
 
 changes_takes : (total : ℕ) (bytes : List ℕ) (x : List Change × List ℕ) → IsBytes bytes → changes_at total bytes ≡ Ok x → Took changes_bytes (AllByRecursion FitsChange) bytes x
 unfolding changes_at

@@ -74,7 +74,7 @@ given_at total bytes = do
   n ← number_at w32 total bytes
   repeated (pair_at total) n.0 n.1
 
--- the four forms of a change behind its tag
+-- what stands behind the tag of a creation, of an update, and of a destroy or a touch
 unfoldable pub create_at : ℕ → List ℕ → Field Change
 create_at total bytes = do
   model ← text_at total bytes
@@ -88,25 +88,19 @@ update_at total bytes = do
   given ← given_at total id.1
   Ok (changes.Update model.0 id.0 given.0, given.1)
 
-unfoldable pub destroy_at : ℕ → List ℕ → Field Change
-destroy_at total bytes = do
+unfoldable pub mark_at : ℕ → List ℕ → Field (List ℕ × ℕ)
+mark_at total bytes = do
   model ← text_at total bytes
   id ← number_at w32 total model.1
-  Ok (changes.Destroy model.0 id.0, id.1)
-
-unfoldable pub touch_at : ℕ → List ℕ → Field Change
-touch_at total bytes = do
-  model ← text_at total bytes
-  id ← number_at w32 total model.1
-  Ok (changes.Touch model.0 id.0, id.1)
+  Ok ((model.0, id.0), id.1)
 
 -- a change behind this tag, which stands at a place
 unfoldable pub tagged_change : ℕ → ℕ → ℕ → List ℕ → Field Change
 tagged_change total at tag bytes =
     if tag == 1 then create_at total bytes
     else if tag == 2 then update_at total bytes
-    else if tag == 3 then destroy_at total bytes
-    else if tag == 4 then touch_at total bytes
+    else if tag == 3 then mark_at total bytes >>= (λ m. Ok (changes.Destroy m.0.0 m.0.1, m.1))
+    else if tag == 4 then mark_at total bytes >>= (λ m. Ok (changes.Touch m.0.0 m.0.1, m.1))
     else Err (BadTag at)
 
 unfoldable pub change_at : ℕ → List ℕ → Field Change

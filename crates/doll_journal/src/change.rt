@@ -18,6 +18,7 @@ pub enum Change {
     Touch { model: Name, id: u32 },
 }
 
+/// Changes in the order in which they are made.
 pub type Changes = Items<Change>;
 
 /// Changes that are made together.

@@ -2,22 +2,20 @@
 
 ghost use Rattle.std.specs.Prelude.{◌≡◌, IfOk};
 ghost use Rattle.std.specs.Int.{w32, w64};
-ghost use Rattle.std.specs.Str.{is_utf8};
 ghost use Rattle.doll_expr.specs.Gives.{Gives};
 ghost use Rattle.doll_journal.specs.declared.change.Commit.{Commit};
 ghost use Rattle.doll_journal.specs.Spelling.{spelling};
 ghost use Rattle.doll_journal.specs.Storable.{IsStorable, OneSpelling};
 ghost use Rattle.doll_journal.specs.Seen.{GivesSeen};
-ghost use Rattle.doll_journal.specs.Reading.{place, byte_at, number_at, text_at, tagged_value, value_at, pair_at, repeated, given_at, create_at, update_at, destroy_at, touch_at, tagged_change, change_at, changes_at, commit_at, commit_of};
+ghost use Rattle.doll_journal.specs.Reading.{place, byte_at, number_at, text_at, tagged_value, value_at, pair_at, repeated, given_at, create_at, update_at, mark_at, tagged_change, change_at, changes_at, commit_at, commit_of};
 
 use crate::change::{Change, Changes, Commit, Given};
 use crate::fault::JournalFault;
+use crate::lengths::MOST_BYTES;
+use crate::storable::is_text;
 use doll_expr::{Items, Name, Text};
 use doll_schema::Value;
 use std::alloc::Global;
-
-/// The most bytes of a commit.
-const LIMIT: usize = 2_147_483_648;
 
 /// The commit whose bytes these are, all of them.
 pub fn decode(alloc: Global, bytes: &[u8]) -> Result<Commit, JournalFault>
@@ -40,10 +38,8 @@ pub fn one_spelling()
 fn commit_of(alloc: Global, bytes: &[u8]) -> Result<Commit, JournalFault>
     ensures { Gives JournalFault.Memory (commit_of bytes.now) result }
 {
-    if bytes.len() > LIMIT {
-        return Err(JournalFault::TooLarge {
-            limit: LIMIT as u64,
-        });
+    if bytes.len() as u64 > MOST_BYTES {
+        return Err(JournalFault::TooLarge { limit: MOST_BYTES });
     }
     let (commit, rest) = commit_at(alloc, bytes.len(), bytes)?;
     if !rest.is_empty() {
@@ -133,16 +129,6 @@ fn text_at(total: usize, bytes: &[u8]) -> Result<(&[u8], &[u8]), JournalFault>
         return Err(JournalFault::BadText { at });
     }
     Ok((text, after))
-}
-
-#[tactic(auto, using(crate::proofs::Texts::is_a_text, crate::proofs::Texts::is_no_text))]
-fn is_text(bytes: &[u8]) -> bool
-    ensures { result ≡ is_utf8 bytes.now }
-{
-    match std::str::from_utf8(bytes) {
-        Ok(_) => true,
-        Err(_) => false,
-    }
 }
 
 #[tactic(auto, unfolding(crate::specs::Reading::value_at))]
@@ -240,24 +226,15 @@ fn update_at(alloc: Global, total: usize, bytes: &[u8]) -> Result<(Change, &[u8]
     Ok((Change::Update { model, id, values }, rest))
 }
 
-#[tactic(auto, unfolding(crate::specs::Reading::destroy_at))]
-fn destroy_at(alloc: Global, total: usize, bytes: &[u8]) -> Result<(Change, &[u8]), JournalFault>
-    ensures { GivesSeen (λ x. (x.0, x.1.now)) JournalFault.Memory (destroy_at total bytes.now) result }
+/// The name of a model and an id of it.
+#[tactic(auto, unfolding(crate::specs::Reading::mark_at))]
+fn mark_at(alloc: Global, total: usize, bytes: &[u8]) -> Result<((Name, u32), &[u8]), JournalFault>
+    ensures { GivesSeen (λ x. (x.0, x.1.now)) JournalFault.Memory (mark_at total bytes.now) result }
 {
     let (model, rest) = text_at(total, bytes)?;
     let model = Name::from_bytes(alloc, model)?;
     let (id, rest) = u32_at(total, rest)?;
-    Ok((Change::Destroy { model, id }, rest))
-}
-
-#[tactic(auto, unfolding(crate::specs::Reading::touch_at))]
-fn touch_at(alloc: Global, total: usize, bytes: &[u8]) -> Result<(Change, &[u8]), JournalFault>
-    ensures { GivesSeen (λ x. (x.0, x.1.now)) JournalFault.Memory (touch_at total bytes.now) result }
-{
-    let (model, rest) = text_at(total, bytes)?;
-    let model = Name::from_bytes(alloc, model)?;
-    let (id, rest) = u32_at(total, rest)?;
-    Ok((Change::Touch { model, id }, rest))
+    Ok(((model, id), rest))
 }
 
 #[tactic(auto, unfolding(crate::specs::Reading::tagged_change))]
@@ -273,8 +250,14 @@ fn tagged_change(
     match tag {
         1 => create_at(alloc, total, bytes),
         2 => update_at(alloc, total, bytes),
-        3 => destroy_at(alloc, total, bytes),
-        4 => touch_at(alloc, total, bytes),
+        3 => {
+            let ((model, id), rest) = mark_at(alloc, total, bytes)?;
+            Ok((Change::Destroy { model, id }, rest))
+        }
+        4 => {
+            let ((model, id), rest) = mark_at(alloc, total, bytes)?;
+            Ok((Change::Touch { model, id }, rest))
+        }
         _ => Err(JournalFault::BadTag { at }),
     }
 }

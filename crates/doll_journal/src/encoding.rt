@@ -9,7 +9,8 @@ use doll_expr::{Memory, Name};
 use doll_schema::Value;
 use std::alloc::Global;
 
-/// The one spelling of the commit.
+/// The one spelling of the commit, which has `2^31` bytes at most: so it is where `are_storable` says yes of its changes,
+/// whoever makes it and whenever.
 pub fn encode(alloc: Global, commit: &Commit) -> Result<Vec<u8>, Memory>
     requires { length (spelling commit.now) ≤ 2 ^ 31 }
     ensures { IfOk result (λ v. v.items ≡ spelling commit.now) }

@@ -1,6 +1,6 @@
 //! Reading changes from JSON.
 
-ghost use Rattle.std.specs.Prelude.{◌≡◌, ◌<◌, ◌^◌, codes, IfOk, IfSome, is_some};
+ghost use Rattle.std.specs.Prelude.{◌≡◌, ◌<◌, ◌^◌, codes, option_map, IfOk, IfSome, is_some};
 ghost use Rattle.std.specs.List.{AllByRecursion};
 ghost use Rattle.std.specs.Str.{IsUtf8};
 ghost use Rattle.serde_json.specs.View.{items_view, members_view, view};
@@ -18,7 +18,7 @@ use std::alloc::Global;
 
 /// The changes that the JSON value is, or None where it is no array of changes.
 ///
-/// A commit may have them, whoever makes it: where their bytes are too many for one, no memory is answered.
+/// A commit may have them, whoever makes it: where their bytes are too many for one, the answer is the want of memory.
 pub fn changes_of(alloc: Global, json: &serde_json::Value) -> Result<Option<Changes>, Memory>
     ensures exact { IfOk result (λ o. o ≡ changes_in (view json.now)) }
     ensures storable { IfOk result (λ o. IfSome o AreStorable) }
@@ -149,33 +149,27 @@ fn model_at(alloc: Global, json: &serde_json::Value, key: &str) -> Result<Option
     ensures exact { IfOk result (λ o. o ≡ model_at key.now (view json.now)) }
     ensures fits { IfOk result (λ o. IfSome o IsUtf8) }
 {
-    match text_at(json, key) {
-        None => Ok(None),
-        Some(text) => short_name(alloc, text),
-    }
+    let Some(text) = text_at(json, key) else {
+        return Ok(None);
+    };
+    let Some(name) = short(alloc, text)? else {
+        return Ok(None);
+    };
+    Ok(Some(Name::from_vec(name)))
 }
 
 /// The longest text of a change, in bytes.
 const LONGEST: usize = 1_048_576;
 
-fn short_name(alloc: Global, text: &str) -> Result<Option<Name>, Memory>
-    ensures exact { IfOk result (λ o. o ≡ short text.now) }
-    ensures fits { IfOk result (λ o. IfSome o IsUtf8) }
+/// The bytes of a text that isn't too long for a change.
+fn short(alloc: Global, text: &str) -> Result<Option<Vec<u8>>, Memory>
+    ensures exact { IfOk result (λ o. option_map (λ v. v.items) o ≡ short text.now) }
+    ensures fits { IfOk result (λ o. IfSome o (λ v. IsUtf8 v.items)) }
 {
     if text.len() > LONGEST {
         return Ok(None);
     }
-    Ok(Some(Name::from_bytes(alloc, text.as_bytes())?))
-}
-
-fn short_text(alloc: Global, text: &str) -> Result<Option<Text>, Memory>
-    ensures exact { IfOk result (λ o. o ≡ short text.now) }
-    ensures fits { IfOk result (λ o. IfSome o IsUtf8) }
-{
-    if text.len() > LONGEST {
-        return Ok(None);
-    }
-    Ok(Some(Text::from_bytes(alloc, text.as_bytes())?))
+    Ok(Some(Vec::from_slice(alloc, text.as_bytes())?))
 }
 
 fn given_at(alloc: Global, json: &serde_json::Value) -> Result<Option<Given>, Memory>
@@ -228,13 +222,13 @@ fn pair_in(
     ensures exact { IfOk result (λ o. o ≡ pair_in name.now (view json.now)) }
     ensures fits { IfOk result (λ o. IfSome o FitsPair) }
 {
-    let Some(name) = short_name(alloc, name)? else {
+    let Some(name) = short(alloc, name)? else {
         return Ok(None);
     };
     let Some(value) = value_in(alloc, json)? else {
         return Ok(None);
     };
-    Ok(Some((name, value)))
+    Ok(Some((Name::from_vec(name), value)))
 }
 
 fn value_in(alloc: Global, json: &serde_json::Value) -> Result<Option<Value>, Memory>
@@ -245,9 +239,9 @@ fn value_in(alloc: Global, json: &serde_json::Value) -> Result<Option<Value>, Me
         serde_json::Value::Null => Ok(Some(Value::Nil)),
         serde_json::Value::Bool(value) => Ok(Some(Value::Bool(*value))),
         serde_json::Value::Number(number) => Ok(number.as_i64().map(Value::Int)),
-        serde_json::Value::String(text) => match short_text(alloc, text.as_str())? {
+        serde_json::Value::String(text) => match short(alloc, text.as_str())? {
             None => Ok(None),
-            Some(text) => Ok(Some(Value::Text(text))),
+            Some(text) => Ok(Some(Value::Text(Text::from_vec(text)))),
         },
         _ => Ok(None),
     }

@@ -7,6 +7,9 @@ use crate::change::Change;
 use doll_expr::Name;
 use doll_schema::Value;
 
+/// The most bytes of a commit: 2^31.
+pub const MOST_BYTES: u64 = 2_147_483_648;
+
 /// Lengths are counted up to this one, which no commit reaches.
 const CAP: u64 = 4_294_967_296;
 
@@ -14,7 +17,7 @@ const CAP: u64 = 4_294_967_296;
 pub fn have_room(changes: &[Change]) -> bool
     ensures { result ≡ nat_le (20 + length (changes_bytes changes.now)) (2 ^ 31) }
 {
-    20 + changes_len(changes) <= 2_147_483_648
+    20 + changes_len(changes) <= MOST_BYTES
 }
 
 fn capped(a: u64, b: u64) -> u64

@@ -7,12 +7,14 @@ pub mod encoding;
 pub mod fault;
 pub mod forms;
 pub mod lengths;
+mod storable;
 
 pub use change::{Change, Changes, Commit, Given};
 pub use decoding::{decode, one_spelling};
 pub use encoding::encode;
 pub use fault::JournalFault;
 pub use forms::changes_of;
+pub use storable::are_storable;
 
 #[cfg(test)]
 mod tests;
