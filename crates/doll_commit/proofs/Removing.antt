@@ -1,5 +1,5 @@
 -- A table without some of its records.
-use Rattle.std.proofs.Common.{◌≡◌, ℕ, zero, suc, ◌+◌, ◌<◌, ◌≤◌, Bool, true, false, not, cond, ◌||◌, List, [], ◌∷◌, map, filter, length, Option, Some, None, is_some, eqb, refl, sym, ◌∙◌, ap, subst, arith, ◌⊎◌, inl, inr}
+use Rattle.std.proofs.Common.{◌≡◌, ℕ, zero, suc, ◌+◌, ◌<◌, ◌≤◌, Bool, true, false, not, cond, ◌||◌, List, [], ◌∷◌, map, filter, length, drop, get_or, Option, Some, None, is_some, eqb, refl, sym, ◌∙◌, ap, subst, arith, ◌⊎◌, inl, inr}
 use Rattle.std.specs.Prelude.{slice_get}
 use Rattle.std.specs.List.{list_any, flat_map, enumerate_from}
 use Rattle.std.specs.Option.{option_map_or}
@@ -8,6 +8,7 @@ use Rattle.std.specs.FinMap as finite
 use Rattle.std.specs.FinMap.Entries.{find}
 use Rattle.std.proofs.lemmas.Bool.{true≢false, or_cases, or_left, or_right, eq-eqb, false_from_ne_true}
 use Rattle.std.proofs.lemmas.Bool.Decides.{nat_tests}
+use Rattle.std.proofs.lemmas.List.{drop_more}
 use Rattle.std.proofs.lemmas.Option.{same_Some, none-some}
 use Rattle.doll_schema.specs.declared.value.Row.{Row}
 use Rattle.doll_schema.specs.declared.model.BelongsTo.{BelongsTo}
@@ -50,6 +51,23 @@ pub same_without : (table : TableMap) (xs ys : List Ref) → SameRefs xs ys → 
 same_without table xs ys same =
     same_table (without_rows table xs) (without_rows table ys) (schema_without_rows table xs ∙ sym (schema_without_rows table ys)) (length_without_rows table xs ∙ sym (length_without_rows table ys))
     (λ m i. row_of_without_rows table xs m i ∙ (ap (λ b. cond b None (row_of table m i)) (same (m, i)) ∙ sym (row_of_without_rows table ys m i))) (λ m. next_of_without_rows table xs m ∙ sym (next_of_without_rows table ys m))
+
+-- the records behind one are taken away before it
+
+taken_after : (a b : Bool) (o : Option Row) → cond a None (cond b None o) ≡ cond (a || b) None o
+taken_after true b o = refl
+taken_after false b o = refl
+
+without_last : (table : TableMap) (r : Ref) (rs : List Ref) → without_row (without_rows table rs) r.0 r.1 ≡ without_rows table (r ∷ rs)
+without_last table r rs =
+    let behind = without_rows table rs in
+    same_table (without_row behind r.0 r.1) (without_rows table (r ∷ rs)) (schema_without_rows table rs ∙ sym (schema_without_rows table (r ∷ rs)))
+    (length_stays behind r.0 (λ (x : Extent). record x { rows = finite.remove x.rows r.1 }) ∙ (length_without_rows table rs ∙ sym (length_without_rows table (r ∷ rs))))
+    (λ m i. row_of_without behind r.0 r.1 m i ∙ (ap (λ o. cond (is_ref (m, i) r) None o) (row_of_without_rows table rs m i) ∙ (taken_after (is_ref (m, i) r) (has rs (m, i)) (row_of table m i) ∙ sym (row_of_without_rows table (r ∷ rs) m i))))
+    (λ m. next_of_without behind r.0 r.1 m ∙ (next_of_without_rows table rs m ∙ sym (next_of_without_rows table (r ∷ rs) m)))
+
+pub without_at : (table : TableMap) (refs : List Ref) (at : ℕ) (d : Ref) → at < length refs → without_row (without_rows table (drop (at + 1) refs)) (get_or refs at d).0 (get_or refs at d).1 ≡ without_rows table (drop at refs)
+without_at table refs at d l = without_last table (get_or refs at d) (drop (at + 1) refs) ∙ ap (without_rows table) (sym (drop_more refs at d l))
 
 -- tests over lists with the same records
 

@@ -2,18 +2,17 @@
 #![tactic(auto)]
 
 pub mod apply;
-pub mod change;
-pub mod course;
-pub mod fault;
-pub mod given;
-pub mod removal;
-pub mod rows;
-pub mod touched;
-pub mod walk;
+mod change;
+mod course;
+mod fault;
+mod given;
+mod removal;
+mod rows;
+mod touched;
+mod walk;
 
 pub use apply::Applied;
-pub use fault::{ChangeFault, CommitFault, Why};
-pub use walk::{Ref, Refs};
+pub use fault::{CommitFault, Why};
 
 #[cfg(test)]
 mod tests;

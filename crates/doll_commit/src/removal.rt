@@ -152,13 +152,17 @@ fn stays(removed: &Refs, model: u16, ids: &[u32]) -> bool
     false
 }
 
-/// Removes these records.
+/// Removes these records, the last first: children stand in ascending order, so that a table moves few rows up where they
+/// go from their end.
 pub fn remove_all(table: &mut Table, removed: &[Ref]) -> Result<(), Memory>
     requires { (ref : ℕ × ℕ) → has removed.now ref ≡ true → ref.0 < length table.old.schema.models }
     ensures { OnOk result (table.new ≡ spec.without_rows table.old removed.now) }
 {
-    for (model, id) in removed {
-        table.remove(*model, *id)?;
+    let mut left = removed.len();
+    while left > 0 {
+        left -= 1;
+        let (model, id) = removed[left];
+        table.remove(model, id)?;
     }
     Ok(())
 }

@@ -1,10 +1,14 @@
-use Rattle.std.proofs.Common.{◌≡◌, drop}
+use Rattle.std.proofs.Common.{◌≡◌, ◌≤◌, drop, length}
 use Rattle.doll_commit.specs.Removed.{without_rows}
 use Rattle.doll_commit.proofs.removal.remove_all.Given as goal
 
--- what is left leads to the whole
-abbrev pub invariant-loop-model : goal.invariant-loop-model
-invariant-loop-model l = record {
-  so_far : without_rows l.table (drop l.model-index l.removed) ≡ without_rows l.fn.table l.removed;
+-- the records behind those that are left are taken away
+abbrev pub invariant-loop-left : goal.invariant-loop-left
+invariant-loop-left l = record {
+  so_far : l.table ≡ without_rows l.fn.table (drop l.left l.removed);
+  within : l.left ≤ length l.removed;
   schema : l.table.schema ≡ l.fn.table.schema;
 }
+
+abbrev pub decreases-loop-left : goal.decreases-loop-left
+decreases-loop-left l = l.left
