@@ -1,9 +1,9 @@
 -- What stands under the keys of a JSON object.
-use Rattle.std.specs.Prelude.{ℕ, ℤ, ◌&&◌, Bool, true, false, List, Option, Some, None, option_and_then}
+use Rattle.std.specs.Prelude.{ℕ, ◌&&◌, Bool, true, false, List, Option, Some, None, option_and_then}
 use Rattle.std.specs.List.{list_any}
 use Rattle.std.specs.Str.{bytes_eq}
 use Rattle.serde_json.specs.Data.{Data, null, boolean, number, string, array, object, Items, no_items, Members, no_members, member}
-use Rattle.serde_json.specs.Find.{get, as_array, as_bool, as_i64, as_number, as_object, as_str, as_u64}
+use Rattle.serde_json.specs.Find.{get, as_array, as_bool, as_number, as_object, as_str, as_u64}
 
 -- each key is among these
 abbrev pub members_within : List (List ℕ) → Members → Bool
@@ -34,10 +34,6 @@ object_at key d = option_and_then as_object (get key d)
 -- the whole number under a key, from 0 to 2^64 - 1
 abbrev pub whole_at : List ℕ → Data → Option ℕ
 whole_at key d = option_and_then as_u64 (option_and_then as_number (get key d))
-
--- the whole number of 64 bits under a key, signed
-abbrev pub integer_at : List ℕ → Data → Option ℤ
-integer_at key d = option_and_then as_i64 (option_and_then as_number (get key d))
 
 -- the array, none of whose items is there where there is no such key; null is no array
 abbrev pub list_if_given : Option Data → Option Items

@@ -2,12 +2,13 @@
 
 ghost use Rattle.std.specs.Prelude.{◌≡◌, ◌<◌, ◌≤◌, ◌++◌, ◌||◌, [], length, map, option_map, codes, IfOk, OnOk};
 ghost use Rattle.std.specs.List.{list_any};
+ghost use Rattle.std.specs.Option.{ok_or};
 ghost use Rattle.std.specs.Str.{bytes_eq};
 ghost use Rattle.serde_json.specs.Find.{get};
 ghost use Rattle.serde_json.specs.View.{items_view, view};
 ghost use Rattle.doll_expr.specs.Gives.{Gives};
 ghost use Rattle.doll_schema.specs.Limits.{HasFewDrafts, AreDraftsWithinLimits};
-ghost use Rattle.doll_schema.specs.Drafts.{attribute_of, attributes_from, parent_of, parents_from, many_of, manys_from, attributes_of, parents_of, manys_of, own_name, model_of, model_with, models_from, drafts_of, name_at, kind_named, destroy_named, destroy_if_given, is_taken, is_model, is_plural, has_model_keys, model_items, place};
+ghost use Rattle.doll_schema.specs.Drafts.{attribute_of, attributes_from, parent_of, parents_from, many_of, manys_from, attributes_of, parents_of, manys_of, model_of, model_with, models_from, drafts_of, name_at, kind_named, destroy_named, destroy_if_given, is_taken, is_model, is_plural, has_model_keys, model_items, place};
 
 use crate::draft::{ManyDraft, ManyDrafts, ModelDraft, ModelDrafts, ParentDraft, ParentDrafts};
 use crate::fault::{Part, Place, SchemaFault};
@@ -74,8 +75,16 @@ fn model_of(alloc: Global, earlier: &[ModelDraft], json: &Value) -> Result<Model
             at: place(number, Part::Whole, 0),
         });
     }
-    let name = model_name(alloc, earlier, json)?;
-    let plural = model_plural(alloc, earlier, json)?;
+    let at = place(number, Part::Name, 0);
+    let name = own_name(alloc, at, json, "name")?;
+    if is_model(earlier, name.as_bytes()) {
+        return Err(SchemaFault::DuplicateName { at });
+    }
+    let at = place(number, Part::Plural, 0);
+    let plural = own_name(alloc, at, json, "plural")?;
+    if is_plural(earlier, plural.as_bytes()) {
+        return Err(SchemaFault::DuplicateName { at });
+    }
     model_with(alloc, number, name, plural, json)
 }
 
@@ -119,34 +128,14 @@ fn has_model_keys(json: &Value) -> bool
         && json.get("attributes").is_some()
 }
 
-fn model_name(alloc: Global, earlier: &[ModelDraft], json: &Value) -> Result<Name, SchemaFault>
-    requires { length earlier.now ≤ 32 }
-    ensures { Gives SchemaFault.Memory
-        (own_name (place (length earlier.now) Part.Name 0) (codes "name") (is_model earlier.now) (view json.now)) result }
+/// A name of a model's own, under a key.
+fn own_name(alloc: Global, at: Place, json: &Value, key: &str) -> Result<Name, SchemaFault>
+    ensures { Gives SchemaFault.Memory (ok_or (name_at key.now (view json.now)) (SchemaFault.BadForm at)) result }
 {
-    let at = place(earlier.len() as u32, Part::Name, 0);
-    let Some(name) = name_at(json, "name") else {
+    let Some(name) = name_at(json, key) else {
         return Err(SchemaFault::BadForm { at });
     };
-    if is_model(earlier, name.as_bytes()) {
-        return Err(SchemaFault::DuplicateName { at });
-    }
     Ok(Name::from_bytes(alloc, name.as_bytes())?)
-}
-
-fn model_plural(alloc: Global, earlier: &[ModelDraft], json: &Value) -> Result<Name, SchemaFault>
-    requires { length earlier.now ≤ 32 }
-    ensures { Gives SchemaFault.Memory
-        (own_name (place (length earlier.now) Part.Plural 0) (codes "plural") (is_plural earlier.now) (view json.now)) result }
-{
-    let at = place(earlier.len() as u32, Part::Plural, 0);
-    let Some(plural) = name_at(json, "plural") else {
-        return Err(SchemaFault::BadForm { at });
-    };
-    if is_plural(earlier, plural.as_bytes()) {
-        return Err(SchemaFault::DuplicateName { at });
-    }
-    Ok(Name::from_bytes(alloc, plural.as_bytes())?)
 }
 
 fn is_model(models: &[ModelDraft], name: &[u8]) -> bool

@@ -4,7 +4,7 @@ ghost use Rattle.std.specs.Prelude.{◌≡◌, Bool, map, option_map};
 ghost use Rattle.std.specs.List.{list_any};
 ghost use Rattle.std.specs.Str.{bytes_eq};
 ghost use Rattle.serde_json.specs.View.{items_view, members_view, view};
-ghost use Rattle.doll_schema.specs.Json.{has_only, text_at, list_at, list_or_empty, whole_at, integer_at, bool_or, members_within, object_at};
+ghost use Rattle.doll_schema.specs.Json.{has_only, text_at, list_at, list_or_empty, whole_at, bool_or, members_within, object_at};
 
 use serde_json::{Map, Value};
 
@@ -74,13 +74,6 @@ pub fn whole_at(json: &Value, key: &str) -> Option<u64>
     ensures { result ≡ whole_at key.now (view json.now) }
 {
     json.get(key).and_then(Value::as_u64)
-}
-
-/// The whole number under a key, of 64 bits and signed.
-pub fn integer_at(json: &Value, key: &str) -> Option<i64>
-    ensures { result ≡ integer_at key.now (view json.now) }
-{
-    json.get(key).and_then(Value::as_i64)
 }
 
 /// The object under a key.

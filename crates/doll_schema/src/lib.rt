@@ -1,12 +1,12 @@
 //! Models, their attributes and associations, and the values of their records.
 #![tactic(auto)]
 
-pub mod draft;
-pub mod drafting;
+mod draft;
+mod drafting;
 pub mod escaping;
 pub mod fault;
 pub mod json;
-pub mod linking;
+mod linking;
 pub mod model;
 pub mod value;
 
