@@ -47,6 +47,7 @@ impl Table {
         Ok(Table { schema, models })
     }
 
+    /// A table with the same schema, rows and next ids.
     pub fn copy(&self, alloc: Global) -> Result<Table, Memory>
         ensures { IfOk result (λ copy. copy ≡ self.now) }
     {
@@ -55,6 +56,7 @@ impl Table {
         Ok(Table { schema, models })
     }
 
+    /// The schema that the table was made for.
     pub fn schema(&self) -> &Schema
         ensures { result.now ≡ self.now.schema }
     {
@@ -112,6 +114,7 @@ impl Table {
         self.models[model as usize].next()
     }
 
+    /// Sets the id that the next row of a model gets.
     pub fn set_next(&mut self, model: u16, next: u32)
         requires { model < length self.old.schema.models }
         ensures { self.new ≡ put_next self.old model next }
