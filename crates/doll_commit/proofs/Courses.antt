@@ -18,9 +18,8 @@ use Rattle.doll_commit.specs.declared.fault.Why.{Why}
 use Rattle.doll_commit.specs.declared.fault.Why.TheVariants as why
 use Rattle.doll_commit.specs.Records.{Ref, is_ref, has}
 use Rattle.doll_commit.specs.Given.{Given}
-use Rattle.doll_commit.specs.Rows.{blank_row}
 use Rattle.doll_commit.specs.Removed.{removed_with, is_restricted, without_rows}
-use Rattle.doll_commit.specs.Changes.{Made, model_named, living, filled, filled_at, create, update, destroy_all, destroy, touch, made}
+use Rattle.doll_commit.specs.Changes.{Made, model_named, living, created_row, updated_row, create, update, destroy_all, destroy, touch, made}
 use Rattle.doll_commit.specs.Commits.{row_touches, touch_parents, touched_at_once, Course, after_change, or_refused, all_made}
 use Rattle.doll_commit.proofs.Closures.{has_left, has_right, has_next}
 
@@ -68,7 +67,7 @@ without_other (gone ∷ removed) table r h =
     ∙ (row_of_without table gone.0 gone.1 r.0 r.1 ∙ ap (λ b. cond b None (row_of table r.0 r.1)) (not_first (is_ref r gone) (has removed r) h))
 
 create_leaves : (table : TableMap) (schema : Schema) (given : Given) (m : ℕ) → IfMade table (create table schema given m)
-create_leaves table schema given m = if_made table (eqb (next_of table m) 4294967295) why.IdsEnded (ok_or (slice_get schema.models m) why.UnknownModel >>= at_model) (then_made table (ok_or (slice_get schema.models m) why.UnknownModel) at_model (λ model. then_made table (filled table model given (blank_row model)) at_row (λ row. made_of table (new row) (left row))))
+create_leaves table schema given m = if_made table (eqb (next_of table m) 4294967295) why.IdsEnded (created_row table schema given m >>= at_row) (then_made table (created_row table schema given m) at_row (λ row. made_of table (new row) (left row)))
   where
     new : Row → Made
     new row = record { table = put_next (put_row table m (next_of table m) row) m (next_of table m + 1); changed = (m, next_of table m) ∷ []; created = Some (next_of table m) }
@@ -76,23 +75,17 @@ create_leaves table schema given m = if_made table (eqb (next_of table m) 429496
     at_row : Row → Result Made Why
     at_row row = Ok (new row)
 
-    at_model : Model → Result Made Why
-    at_model model = filled table model given (blank_row model) >>= at_row
-
     left : (row : Row) → Leaves table (new row)
     left row = record { row = λ r h. row_of_next (put_row table m (next_of table m) row) m (next_of table m + 1) r.0 r.1 ∙ put_other table m (next_of table m) row r (not_first (is_ref r (m, next_of table m)) false h) }
 
 update_leaves : (table : TableMap) (schema : Schema) (given : Given) (ref : Ref) → IfMade table (update table schema given ref)
-update_leaves table schema given ref = then_made table (living table ref) at_old (λ old. then_made table (filled_at table schema ref.0 given old) at_row (λ row. made_of table (new row) (left row)))
+update_leaves table schema given ref = then_made table (updated_row table schema given ref) at_row (λ row. made_of table (new row) (left row))
   where
     new : Row → Made
     new row = record { table = put_row table ref.0 ref.1 row; changed = ref ∷ []; created = None }
 
     at_row : Row → Result Made Why
     at_row row = Ok (new row)
-
-    at_old : Row → Result Made Why
-    at_old old = filled_at table schema ref.0 given old >>= at_row
 
     left : (row : Row) → Leaves table (new row)
     left row = record { row = λ r h. put_other table ref.0 ref.1 row r (not_first (is_ref r ref) false h) }

@@ -29,12 +29,6 @@ use Rattle.doll_commit.proofs.Closures.{is_ref_itself, has_one, closure_all, has
 use Rattle.doll_commit.proofs.Filled.{create_fits}
 use Rattle.doll_commit.proofs.Removing.{row_of_without_rows, same_without, same_restricted, without_fits}
 
--- steps after steps
-
-bind_assoc : {A B C F : Type 0} (r : Result A F) (f : A → Result B F) (g : B → Result C F) → ((r >>= f) >>= g) ≡ (r >>= λ x. f x >>= g)
-bind_assoc (Ok x) f g = refl
-bind_assoc (Err e) f g = refl
-
 -- a fault of a step is one of all
 pub refuses_then : {A B : Type 0} (r : Result A Why) (f : A → Result B Why) (e : ChangeFault) → Refuses r e → Refuses (r >>= f) e
 refuses_then r f fault.Memory h = tt
@@ -75,8 +69,7 @@ cond_at b x y e = ap (λ c. cond c x y) e
 created_is : (table : TableMap) (schema : Schema) (given : Given) (m : ℕ) (row : Row) → eqb (next_of table m) 4294967295 ≡ false → created_row table schema given m ≡ Ok row
     → create table schema given m ≡ Ok (record { table = put_next (put_row table m (next_of table m) row) m (next_of table m + 1); changed = (m, next_of table m) ∷ []; created = Some (next_of table m) })
 created_is table schema given m row more is =
-    cond_at (eqb (next_of table m) 4294967295) (Err why.IdsEnded) (ok_or (slice_get schema.models m) why.UnknownModel >>= λ model. filled table model given (blank_row model) >>= made_of) more
-    ∙ (sym (bind_assoc (ok_or (slice_get schema.models m) why.UnknownModel) (λ model. filled table model given (blank_row model)) made_of) ∙ ap (λ r. r >>= made_of) is)
+    cond_at (eqb (next_of table m) 4294967295) (Err why.IdsEnded) (created_row table schema given m >>= made_of) more ∙ ap (λ r. r >>= made_of) is
   where
     made_of : Row → Result Made Why
     made_of x = Ok (record { table = put_next (put_row table m (next_of table m) x) m (next_of table m + 1); changed = (m, next_of table m) ∷ []; created = Some (next_of table m) })
@@ -113,7 +106,7 @@ created_fits schema table after m id row t1 t2 t3 fits l suits next e1 e2 e3 e4 
 -- an update
 
 updated_is : (table : TableMap) (schema : Schema) (given : Given) (one : Ref) (row : Row) → updated_row table schema given one ≡ Ok row → update table schema given one ≡ Ok (record { table = put_row table one.0 one.1 row; changed = one ∷ []; created = None })
-updated_is table schema given one row is = sym (bind_assoc (living table one) (λ old. filled_at table schema one.0 given old) made_of) ∙ ap (λ r. r >>= made_of) is
+updated_is table schema given one row is = ap (λ r. r >>= made_of) is
   where
     made_of : Row → Result Made Why
     made_of x = Ok (record { table = put_row table one.0 one.1 x; changed = one ∷ []; created = None })

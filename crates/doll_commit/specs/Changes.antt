@@ -30,14 +30,19 @@ model_named schema name = ok_or (position (λ (m : Model). bytes_eq m.name name)
 abbrev pub living : TableMap → Ref → Result Row Why
 living table ref = ok_or (row_of table ref.0 ref.1) why.MissingRow
 
+-- a fault, if there is one, else what comes behind it
+abbrev pub unless : {A : Type 0} → Option Why → Result A Why → Result A Why
+unless fault result = option_map_or Err fault result
+
 -- a row with the values given, if these are values for it and leave nothing nil that may not be
 abbrev pub filled : TableMap → Model → Given → Row → Result Row Why
-filled table model given old = option_map_or Err (given_fault table model given) (if lacks model (row_after model given old) then Err why.NullRefused else Ok (row_after model given old))
+filled table model given old = unless (given_fault table model given) (if lacks model (row_after model given old) then Err why.NullRefused else Ok (row_after model given old))
 
+-- the same, for a row of the model with this number
 abbrev pub filled_at : TableMap → Schema → ℕ → Given → Row → Result Row Why
 filled_at table schema m given old = ok_or (slice_get schema.models m) why.UnknownModel >>= λ model. filled table model given old
 
--- the rows of a creation and of an update
+-- the row that a creation makes of the values given, all others nil, and the row that an update makes of a living one
 abbrev pub created_row : TableMap → Schema → Given → ℕ → Result Row Why
 created_row table schema given m = ok_or (slice_get schema.models m) why.UnknownModel >>= λ model. filled table model given (blank_row model)
 
@@ -49,12 +54,12 @@ abbrev pub create : TableMap → Schema → Given → ℕ → Result Made Why
 create table schema given m =
     let id = next_of table m in
     if id == 4294967295 then Err why.IdsEnded
-    else ok_or (slice_get schema.models m) why.UnknownModel >>= λ model. filled table model given (blank_row model) >>= λ row.
+    else created_row table schema given m >>= λ row.
     Ok (record { table = put_next (put_row table m id row) m (id + 1); changed = (m, id) ∷ []; created = Some id })
 
 -- an update sets the values given and leaves the others
 abbrev pub update : TableMap → Schema → Given → Ref → Result Made Why
-update table schema given ref = living table ref >>= λ old. filled_at table schema ref.0 given old >>= λ row.
+update table schema given ref = updated_row table schema given ref >>= λ row.
     Ok (record { table = put_row table ref.0 ref.1 row; changed = ref ∷ []; created = None })
 
 -- a destroy removes the record and all that go with it
@@ -68,6 +73,8 @@ destroy table schema ref = living table ref >>= λ old. destroy_all table schema
 abbrev pub touch : TableMap → Ref → Result Made Why
 touch table ref = living table ref >>= λ old. Ok (record { table = table; changed = ref ∷ []; created = None })
 
+-- What a change makes of a table, or why it isn't made. The name of its model comes first, so that of an unknown model
+-- nothing else is told.
 abbrev pub made : TableMap → Schema → Change → Result Made Why
 made table schema (change.Create name given) = model_named schema name >>= create table schema given
 made table schema (change.Update name id given) = model_named schema name >>= λ m. update table schema given (m, id)

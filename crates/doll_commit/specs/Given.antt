@@ -47,10 +47,14 @@ attribute_fault pair a = if bytes_eq a.name pair.0 then if has_kind a.kind pair.
 abbrev pub key_fault : TableMap → List ℕ × Value → BelongsTo → Option Why
 key_fault table pair b = if bytes_eq (key_name b) pair.0 then value_fault table b pair.1 else None
 
+-- the first fault, if there is one, else the second
+abbrev pub first_of : Option Why → Option Why → Option Why
+first_of first second = option_map_or Some first second
+
 -- the first fault among several things
 abbrev pub first_fault : {X : Type 0} → (X → Option Why) → List X → Option Why
 first_fault fault [] = None
-first_fault fault (x ∷ xs) = option_map_or Some (fault x) (first_fault fault xs)
+first_fault fault (x ∷ xs) = first_of (fault x) (first_fault fault xs)
 
 -- whether a name is an attribute's or a foreign key's
 abbrev pub is_known : Model → List ℕ → Bool
@@ -59,7 +63,7 @@ is_known model name = list_any (λ (a : Attribute). bytes_eq a.name name) model.
 -- what is wrong with a given value: its name is neither an attribute's nor a foreign key's, or it isn't a value for that
 abbrev pub pair_fault : TableMap → Model → List ℕ × Value → Option Why
 pair_fault table model pair =
-    if is_known model pair.0 then option_map_or Some (first_fault (attribute_fault pair) model.attributes) (first_fault (key_fault table pair) model.belongs_to)
+    if is_known model pair.0 then first_of (first_fault (attribute_fault pair) model.attributes) (first_fault (key_fault table pair) model.belongs_to)
     else Some why.UnknownAttribute
 
 -- the first fault of the values, in order
