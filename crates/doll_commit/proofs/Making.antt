@@ -19,9 +19,8 @@ use Rattle.doll_commit.specs.declared.fault.ChangeFault.{ChangeFault}
 use Rattle.doll_commit.specs.declared.fault.ChangeFault.TheVariants as fault
 use Rattle.doll_commit.specs.Records.{Ref, is_ref, has, with_ref, with_refs, SameRefs}
 use Rattle.doll_commit.specs.Given.{Given}
-use Rattle.doll_commit.specs.Rows.{blank_row}
 use Rattle.doll_commit.specs.Removed.{dependents, removed_with, is_restricted, without_rows}
-use Rattle.doll_commit.specs.Changes.{Made, living, filled, filled_at, created_row, updated_row, create, update, destroy, destroy_all, touch}
+use Rattle.doll_commit.specs.Changes.{Made, living, filled_at, created_row, updated_row, create, update, destroy, destroy_all, touch}
 use Rattle.doll_commit.specs.Commits.{Course, row_touches, touch_parents, after_change}
 use Rattle.doll_commit.specs.Answers.{Refuses, SameCourse, WentOn}
 use Rattle.doll_commit.proofs.Gone.{dependents_live}

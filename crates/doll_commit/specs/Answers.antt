@@ -6,6 +6,7 @@ use Rattle.doll_commit.specs.declared.fault.ChangeFault.{ChangeFault}
 use Rattle.doll_commit.specs.declared.fault.ChangeFault.TheVariants as fault
 use Rattle.doll_commit.specs.declared.fault.CommitFault.{CommitFault}
 use Rattle.doll_commit.specs.declared.fault.CommitFault.TheVariants as commit
+use Rattle.doll_commit.specs.declared.course.Course as memory
 use Rattle.doll_commit.specs.Records.{SameRefs}
 use Rattle.doll_commit.specs.Changes.{Made}
 use Rattle.doll_commit.specs.Commits.{Course, after_change}
@@ -18,6 +19,10 @@ Refuses expected fault.Memory = ⊤
 -- the answer is the expected one, or want of memory
 abbrev pub Answers : {A : Type 0} → Result A Why → Result A ChangeFault → Type 0
 Answers expected result = MatchResult result (λ x. expected ≡ Ok x) (Refuses expected)
+
+-- the course that one in memory is, which has each record touched once
+abbrev pub seen : memory.Course → Course
+seen course = record { table = course.table; touched = course.touched; ids = course.ids }
 
 -- two courses came to the same, the records touched in whatever order
 pub record SameCourse (a b : Course) : Type 0 where

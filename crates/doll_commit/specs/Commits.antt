@@ -16,7 +16,6 @@ use Rattle.doll_commit.specs.declared.fault.Why.TheVariants as why
 use Rattle.doll_commit.specs.declared.fault.CommitFault.{CommitFault}
 use Rattle.doll_commit.specs.declared.fault.CommitFault.TheVariants as fault
 use Rattle.doll_commit.specs.declared.apply.Applied.{Applied}
-pub use Rattle.doll_commit.specs.declared.course.Course.{Course}
 use Rattle.doll_commit.specs.Records.{Ref, closure}
 use Rattle.doll_commit.specs.Changes.{Made, made}
 
@@ -34,6 +33,13 @@ touch_parents table schema ref = option_map_or (λ (m : Model). option_map_or (r
 -- the records that a change touches at once: those that it changed, and their touch parents just before and just after
 abbrev pub touched_at_once : TableMap → Schema → Made → List Ref
 touched_at_once before schema made = made.changed ++ flat_map (touch_parents before schema) made.changed ++ flat_map (touch_parents made.table schema) made.changed
+
+-- What changes made in order come to: the table after them, the records that they touched at once, and the ids that they
+-- created, in the order of the creations.
+pub record Course : Type 0 where
+  pub table : TableMap
+  pub touched : List Ref
+  pub ids : List ℕ
 
 -- a table before any change
 abbrev pub start : TableMap → Course

@@ -5,7 +5,7 @@ ghost use Rattle.doll_schema.specs.declared.model.Model.{Model};
 ghost use Rattle.doll_table.specs.Tables.{row_of};
 ghost use Rattle.doll_table.specs.Fits.{Fits, RowFits};
 ghost use Rattle.doll_commit.specs.Changes as spec;
-ghost use Rattle.doll_commit.specs.Answers.{Answers, GoesOn};
+ghost use Rattle.doll_commit.specs.Answers.{Answers, GoesOn, seen};
 
 use crate::course::Course;
 use crate::fault::{ChangeFault, Why};
@@ -109,7 +109,7 @@ fn create(
 ) -> Result<(), ChangeFault>
     requires fits { Fits schema.now course.old.table }
     requires within { model < length schema.now.models }
-    ensures exact { GoesOn schema.now course.old (spec.create course.old.table schema.now given.now model) course.new result }
+    ensures exact { GoesOn schema.now (seen course.old) (spec.create course.old.table schema.now given.now model) (seen course.new) result }
     ensures fits { OnOk result (Fits schema.now course.new.table) }
 {
     let id = course.table.next(model);
@@ -134,7 +134,7 @@ fn update(
 ) -> Result<(), ChangeFault>
     requires fits { Fits schema.now course.old.table }
     requires within { one.0 < length schema.now.models }
-    ensures exact { GoesOn schema.now course.old (spec.update course.old.table schema.now given.now one) course.new result }
+    ensures exact { GoesOn schema.now (seen course.old) (spec.update course.old.table schema.now given.now one) (seen course.new) result }
     ensures fits { OnOk result (Fits schema.now course.new.table) }
 {
     let row = updated_row(alloc, &course.table, schema, given, one)?;
@@ -152,7 +152,7 @@ fn lives(table: &Table, one: Ref) -> bool
 
 fn touch(schema: &Schema, course: &mut Course, one: Ref) -> Result<(), ChangeFault>
     requires fits { Fits schema.now course.old.table }
-    ensures exact { GoesOn schema.now course.old (spec.touch course.old.table one) course.new result }
+    ensures exact { GoesOn schema.now (seen course.old) (spec.touch course.old.table one) (seen course.new) result }
     ensures fits { OnOk result (Fits schema.now course.new.table) }
 {
     if !lives(&course.table, one) {
@@ -165,7 +165,7 @@ fn touch(schema: &Schema, course: &mut Course, one: Ref) -> Result<(), ChangeFau
 
 fn destroy(alloc: Global, schema: &Schema, course: &mut Course, one: Ref) -> Result<(), ChangeFault>
     requires fits { Fits schema.now course.old.table }
-    ensures exact { GoesOn schema.now course.old (spec.destroy course.old.table schema.now one) course.new result }
+    ensures exact { GoesOn schema.now (seen course.old) (spec.destroy course.old.table schema.now one) (seen course.new) result }
     ensures fits { OnOk result (Fits schema.now course.new.table) }
 {
     if !lives(&course.table, one) {
@@ -188,7 +188,7 @@ pub fn make_change(
     change: &Change,
 ) -> Result<(), ChangeFault>
     requires fits { Fits schema.now course.old.table }
-    ensures exact { GoesOn schema.now course.old (spec.made course.old.table schema.now change.now) course.new result }
+    ensures exact { GoesOn schema.now (seen course.old) (spec.made course.old.table schema.now change.now) (seen course.new) result }
     ensures fits { OnOk result (Fits schema.now course.new.table) }
 {
     match change {

@@ -15,7 +15,7 @@ use doll_table::Table;
 #[derive(Drop)]
 pub struct Course {
     pub table: Table,
-    /// Each record that a change touched, and its touch parents just before and just after that, once.
+    /// Each record that a change touched, and its touch parents just before and just after that; each stands once.
     pub touched: Refs,
     /// In the order of the creations.
     pub ids: Ids,
@@ -40,6 +40,7 @@ impl Course {
     {
         add_touch_parents(&mut self.touched, schema, &self.table, one)
     }
+
     /// Notes that records are changed, and their touch parents before that.
     pub fn note_all(&mut self, schema: &Schema, records: &[Ref]) -> Result<(), Memory>
         ensures touched { OnOk result (self.new.touched ≡ with_refs (with_refs self.old.touched records.now) (flat_map (touch_parents self.old.table schema.now) records.now)) }

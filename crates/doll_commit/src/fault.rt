@@ -7,7 +7,7 @@ ghost use Rattle.doll_commit.specs.declared.fault.CommitFault.TheVariants as fau
 use doll_expr::Memory;
 use std::alloc::AllocError;
 
-/// Why a change is refused. Of several reasons the first of these is told: an unknown model, a missing record, ids that
+/// Why a change is refused, or a whole commit. Of several reasons the first of these is told: an unknown model, a missing record, ids that
 /// have ended, what is wrong with the values given, one after another, nil where none may be, a record that is held.
 #[derive(Clone, Copy, Debug, PartialEq, Eq)]
 pub enum Why {
@@ -27,7 +27,8 @@ pub enum Why {
     Restricted,
     /// All ids of the model were given out.
     IdsEnded,
-    /// The commit has more than 1,000 changes.
+    /// The commit has more than 1,000 changes. It is told with the index 1,000, of the first that is too many, before any
+    /// change is looked at.
     TooManyChanges,
 }
 

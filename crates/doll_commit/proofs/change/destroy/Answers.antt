@@ -3,6 +3,7 @@ use Rattle.std.specs.List.{flat_map}
 use Rattle.doll_commit.specs.Records.{with_refs}
 use Rattle.doll_commit.specs.Removed.{without_rows}
 use Rattle.doll_commit.specs.Commits.{Course, touch_parents}
+use Rattle.doll_commit.specs.Answers.{seen}
 use Rattle.doll_commit.proofs.Making.{restricted_is, destroyed_went, destroyed_fits, removed_within}
 use Rattle.doll_commit.proofs.change.destroy.Goals as goal
 
@@ -15,7 +16,7 @@ remove_all-requires c = removed_within c.args.schema.now c.args.course.now.table
 
 pub returns-clause-exact : goal.returns-clause-exact
 returns-clause-exact c =
-    let before = c.args.course.now in
+    let before = seen c.args.course.now in
     let after : Course = record { table = c.remove_all.new.table; touched = c.note_all.new.self.touched; ids = c.note_all.new.self.ids } in
     destroyed_went c.args.schema.now before after c.args.one c.in_ok-removed.removed c.note_all.new.self.table (sym c.lives.ensures ∙ c.if-not-lives.false) c.in_ok-removed.ensures (sym c.in_ok-is_restricted.ensures ∙ c.if-branch.false) c.in_ok-note_all.ensures.table
     (c.in_ok-remove_all.ensures ∙ ap (without_rows c.note_all.new.self.table) c.as_slice-2.ensures.items)
