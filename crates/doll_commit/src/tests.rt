@@ -96,6 +96,28 @@ fn create_under(alloc: Global, model: &[u8], key: &[u8], id: i64) -> Result<Chan
     })
 }
 
+/// A game with a whole number under each of two names, in this order.
+fn create_with(alloc: Global, first: &[u8], second: &[u8]) -> Result<Change, Memory> {
+    let mut values: Given = Items::new(alloc);
+    values.push((Name::from_bytes(alloc, first)?, Value::Int(9)))?;
+    values.push((Name::from_bytes(alloc, second)?, Value::Int(9)))?;
+    Ok(Change::Create {
+        model: Name::from_bytes(alloc, b"game")?,
+        values,
+    })
+}
+
+/// A game moves to another product.
+fn moved(alloc: Global, id: u32, product: i64) -> Result<Change, Memory> {
+    let mut values: Given = Items::new(alloc);
+    values.push((Name::from_bytes(alloc, b"product_id")?, Value::Int(product)))?;
+    Ok(Change::Update {
+        model: Name::from_bytes(alloc, b"game")?,
+        id,
+        values,
+    })
+}
+
 fn destroy(alloc: Global, model: &[u8], id: u32) -> Result<Change, Memory> {
     Ok(Change::Destroy {
         model: Name::from_bytes(alloc, model)?,
@@ -149,7 +171,14 @@ fn made(
     apply(alloc, table, schema, &commit)
 }
 
-/// A company with a product of two games.
+/// The refusal of changes.
+fn refused(alloc: Global, table: &Table, schema: &Schema, changes: Changes) -> Option<CommitFault>
+    requires { Fits schema.now table.now }
+{
+    made(alloc, table, schema, 12, changes).err()
+}
+
+/// A company with a product of three games, made at 11.
 fn family(alloc: Global, schema: &Schema) -> Result<Applied, CommitFault>
     ensures { IfOk result (λ applied. Fits schema.now applied.table) }
 {
@@ -158,7 +187,8 @@ fn family(alloc: Global, schema: &Schema) -> Result<Applied, CommitFault>
     changes.push(create_under(alloc, b"product", b"company_id", 1)?)?;
     changes.push(create_under(alloc, b"game", b"product_id", 1)?)?;
     changes.push(create_under(alloc, b"game", b"product_id", 1)?)?;
-    made(alloc, &table, schema, 10, changes)
+    changes.push(create_under(alloc, b"game", b"product_id", 1)?)?;
+    made(alloc, &table, schema, 11, changes)
 }
 
 fn refusal(index: u32, why: Why) -> Option<CommitFault> {
@@ -168,6 +198,14 @@ fn refusal(index: u32, why: Why) -> Option<CommitFault> {
 fn updated_at(table: &Table, model: u16, id: u32) -> Option<u64> {
     let row = table.row(model, id)?;
     Some(row.updated_at)
+}
+
+/// The next ids of products and games.
+fn nexts(table: &Table, schema: &Schema) -> [u32; 2]
+    requires fits { Fits schema.now table.now }
+    requires models { length schema.now.models ≡ 4 }
+{
+    [table.next(PRODUCT), table.next(GAME)]
 }
 
 /// All ids of a model but the last are given out.
@@ -185,13 +223,28 @@ fn a_destroy_takes_children_and_grandchildren(rt: HostRuntime) -> Result<(), Com
     let alloc = rt.alloc();
     let schema = site(alloc)?;
     let family = family(alloc, &schema)?;
-    assert_eq!(rt; family.ids.as_slice(), [1, 1, 1, 2].as_slice());
-    assert_eq!(rt; family.table.all(GAME), [1, 2].as_slice());
+    assert_eq!(rt; family.ids.as_slice(), [1, 1, 1, 2, 3].as_slice());
+    assert_eq!(rt; family.table.all(GAME), [1, 2, 3].as_slice());
     let changes = one(alloc, destroy(alloc, b"company", 1)?)?;
-    let gone = made(alloc, &family.table, &schema, 11, changes)?;
+    let gone = made(alloc, &family.table, &schema, 12, changes)?;
     assert!(rt; gone.table.all(COMPANY).is_empty());
     assert!(rt; gone.table.all(PRODUCT).is_empty());
     assert!(rt; gone.table.all(GAME).is_empty());
+    Ok(())
+}
+
+#[test]
+fn no_id_is_given_twice(rt: HostRuntime) -> Result<(), CommitFault> {
+    let alloc = rt.alloc();
+    let schema = site(alloc)?;
+    let family = family(alloc, &schema)?;
+    let changes = one(alloc, destroy(alloc, b"product", 1)?)?;
+    let gone = made(alloc, &family.table, &schema, 12, changes)?;
+    assert!(rt; gone.table.all(GAME).is_empty());
+    assert_eq!(rt; nexts(&gone.table, &schema), [2, 4]);
+    let game = create_under(alloc, b"game", b"product_id", 1)?;
+    let answer = refused(alloc, &gone.table, &schema, one(alloc, game)?);
+    assert_eq!(rt; answer, refusal(0, Why::BadParent));
     Ok(())
 }
 
@@ -202,10 +255,37 @@ fn a_touch_reaches_grandparents_alone(rt: HostRuntime) -> Result<(), CommitFault
     let family = family(alloc, &schema)?;
     let changes = one(alloc, touch(alloc, b"game", 2)?)?;
     let touched = made(alloc, &family.table, &schema, 12, changes)?;
-    assert_eq!(rt; updated_at(&touched.table, COMPANY, 1), Some(12));
-    assert_eq!(rt; updated_at(&touched.table, PRODUCT, 1), Some(12));
-    assert_eq!(rt; updated_at(&touched.table, GAME, 1), Some(10));
-    assert_eq!(rt; updated_at(&touched.table, GAME, 2), Some(12));
+    let rows = [
+        (COMPANY, 1, 12),
+        (PRODUCT, 1, 12),
+        (GAME, 1, 11),
+        (GAME, 2, 12),
+    ];
+    for (model, id, moment) in rows {
+        assert_eq!(rt; updated_at(&touched.table, model, id), Some(moment));
+    }
+    Ok(())
+}
+
+#[test]
+fn a_move_touches_the_old_parent_and_the_new(rt: HostRuntime) -> Result<(), CommitFault> {
+    let alloc = rt.alloc();
+    let schema = site(alloc)?;
+    let family = family(alloc, &schema)?;
+    let product = one(alloc, create(alloc, b"product")?)?;
+    let second = made(alloc, &family.table, &schema, 13, product)?;
+    let changes = one(alloc, moved(alloc, 3, 2)?)?;
+    let last = made(alloc, &second.table, &schema, 14, changes)?;
+    let rows = [
+        (GAME, 1, 11),
+        (GAME, 2, 11),
+        (GAME, 3, 14),
+        (PRODUCT, 1, 14),
+        (PRODUCT, 2, 14),
+    ];
+    for (model, id, moment) in rows {
+        assert_eq!(rt; updated_at(&last.table, model, id), Some(moment));
+    }
     Ok(())
 }
 
@@ -215,10 +295,10 @@ fn held(alloc: Global) -> Result<Changes, Memory> {
     two(alloc, note, destroy(alloc, b"company", 1)?)
 }
 
-/// A game under a product that isn't there.
+/// A game, and one under a product that isn't there.
 fn orphaned(alloc: Global) -> Result<Changes, Memory> {
-    let game = create_under(alloc, b"game", b"product_id", 2)?;
-    two(alloc, touch(alloc, b"company", 1)?, game)
+    let game = create_under(alloc, b"game", b"product_id", 1)?;
+    two(alloc, game, create_under(alloc, b"game", b"product_id", 9)?)
 }
 
 #[test]
@@ -226,10 +306,28 @@ fn the_first_refused_change_is_told(rt: HostRuntime) -> Result<(), CommitFault> 
     let alloc = rt.alloc();
     let schema = site(alloc)?;
     let table = family(alloc, &schema)?.table;
-    let restricted = made(alloc, &table, &schema, 11, held(alloc)?);
-    assert_eq!(rt; restricted.err(), refusal(1, Why::Restricted));
-    let bad = made(alloc, &table, &schema, 11, orphaned(alloc)?);
-    assert_eq!(rt; bad.err(), refusal(1, Why::BadParent));
+    let restricted = refused(alloc, &table, &schema, held(alloc)?);
+    assert_eq!(rt; restricted, refusal(1, Why::Restricted));
+    let bad = refused(alloc, &table, &schema, orphaned(alloc)?);
+    assert_eq!(rt; bad, refusal(1, Why::BadParent));
+    assert_eq!(rt; nexts(&table, &schema), [2, 4]);
+    Ok(())
+}
+
+#[test]
+fn the_first_fault_of_a_change_is_told(rt: HostRuntime) -> Result<(), CommitFault> {
+    let alloc = rt.alloc();
+    let schema = site(alloc)?;
+    let table = family(alloc, &schema)?.table;
+    let unknown = one(alloc, create(alloc, b"toy")?)?;
+    let unknown = refused(alloc, &table, &schema, unknown);
+    assert_eq!(rt; unknown, refusal(0, Why::UnknownModel));
+    let attribute = one(alloc, create_with(alloc, b"size", b"product_id")?)?;
+    let attribute = refused(alloc, &table, &schema, attribute);
+    assert_eq!(rt; attribute, refusal(0, Why::UnknownAttribute));
+    let parent = one(alloc, create_with(alloc, b"product_id", b"size")?)?;
+    let parent = refused(alloc, &table, &schema, parent);
+    assert_eq!(rt; parent, refusal(0, Why::BadParent));
     Ok(())
 }
 
@@ -240,8 +338,8 @@ fn the_last_id_is_not_given(rt: HostRuntime) -> Result<(), CommitFault> {
     let mut table = Table::empty(alloc, &schema)?;
     use_up(&mut table, &schema, COMPANY);
     let last = one(alloc, create(alloc, b"company")?)?;
-    let answer = made(alloc, &table, &schema, 11, last);
-    assert_eq!(rt; answer.err(), refusal(0, Why::IdsEnded));
+    let answer = refused(alloc, &table, &schema, last);
+    assert_eq!(rt; answer, refusal(0, Why::IdsEnded));
     Ok(())
 }
 
@@ -250,9 +348,9 @@ fn a_commit_has_a_thousand_changes_at_most(rt: HostRuntime) -> Result<(), Commit
     let alloc = rt.alloc();
     let schema = site(alloc)?;
     let family = family(alloc, &schema)?;
-    let few = made(alloc, &family.table, &schema, 11, touches(alloc, 1000)?)?;
-    assert_eq!(rt; updated_at(&few.table, COMPANY, 1), Some(11));
-    let answer = made(alloc, &family.table, &schema, 11, touches(alloc, 1001)?);
-    assert_eq!(rt; answer.err(), refusal(1000, Why::TooManyChanges));
+    let few = made(alloc, &family.table, &schema, 12, touches(alloc, 1000)?)?;
+    assert_eq!(rt; updated_at(&few.table, COMPANY, 1), Some(12));
+    let answer = refused(alloc, &family.table, &schema, touches(alloc, 1001)?);
+    assert_eq!(rt; answer, refusal(1000, Why::TooManyChanges));
     Ok(())
 }
