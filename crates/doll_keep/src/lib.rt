@@ -5,7 +5,7 @@ pub mod keeper;
 pub mod mem_keeper;
 
 pub use keeper::{KeepFault, Keeper};
-pub use mem_keeper::MemKeeper;
+pub use mem_keeper::{MemKeeper, never_fails};
 
 #[cfg(test)]
 mod tests;

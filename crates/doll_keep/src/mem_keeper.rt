@@ -2,7 +2,8 @@
 
 ghost use Rattle.std.specs.Prelude.{◌≡◌, ◌∷◌, ◌++◌, [], ◌↔◌, Some, IfOk, OnOk, OnErr, IsErr, IsErrOf, IsTrue, slice_get};
 ghost use Rattle.doll_base.specs.Faults.{KeepsCount, HasCause, is_due, after_call};
-ghost use Rattle.doll_keep.specs.Kept.{GivesItem, contents};
+ghost use Rattle.doll_keep.specs.Kept.{GivesItem, contents, has_failed};
+ghost use Rattle.doll_keep.specs.Calls.{MemCalled, NeverFails};
 ghost use Rattle.doll_keep.specs.declared.keeper.KeepFault.TheVariants.{Failed, Memory};
 
 use crate::keeper::{KeepFault, Keeper};
@@ -45,13 +46,14 @@ impl Keeper for MemKeeper {
 
     ghost faults = { λ k. k.plan.faults };
 
+    ghost called = { MemCalled };
+
     fn append(&mut self, alloc: Global, bytes: &[u8]) -> Result<(), KeepFault>
         ensures added { OnOk result (self.new.kept ≡ self.old.kept ++ bytes.now ∷ []) }
         ensures same { OnErr result (self.new.kept ≡ self.old.kept) }
         ensures cause { HasCause Failed self.old.plan.faults self.new.plan.faults result }
         ensures count { KeepsCount self.old.plan.faults self.new.plan.faults }
-        ensures due { IsErrOf result Failed ↔ IsTrue (is_due self.old.plan) }
-        ensures plan { self.new.plan ≡ after_call self.old.plan }
+        ensures called { MemCalled self.old (has_failed result) self.new }
     {
         // A call that fails keeps nothing of the item.
         if self.plan.fails() {
@@ -65,8 +67,7 @@ impl Keeper for MemKeeper {
         ensures same { self.new.kept ≡ self.old.kept }
         ensures cause { HasCause Failed self.old.plan.faults self.new.plan.faults result }
         ensures count { KeepsCount self.old.plan.faults self.new.plan.faults }
-        ensures due { IsErrOf result Failed ↔ IsTrue (is_due self.old.plan) }
-        ensures plan { self.new.plan ≡ after_call self.old.plan }
+        ensures called { MemCalled self.old (has_failed result) self.new }
     {
         if self.plan.fails() {
             return Err(KeepFault::Failed);
@@ -93,3 +94,8 @@ fn copy_at(alloc: Global, items: &[Vec<u8>], at: u64) -> Result<Option<Vec<u8>>,
     }
     Ok(Some(Vec::from_slice(alloc, &items[at as usize])?))
 }
+
+/// A keeper in memory that was made to fail at no call never fails.
+pub fn never_fails()
+    ensures { NeverFails }
+{}
