@@ -1,5 +1,5 @@
 -- What recording a commit after a history comes to (this project's own).
-use Rattle.std.specs.Prelude.{ℕ, ◌+◌, ◌-◌, ◌^◌, nat_lt, List, length, Result, Ok, Err}
+use Rattle.std.specs.Prelude.{◌≡◌, ◌⊎◌, ℕ, ◌+◌, ◌-◌, ◌^◌, nat_lt, Bool, true, false, List, length, Result, Ok, Err}
 use Rattle.doll_schema.specs.Steps.{◌>>=◌, ◌>>◌, check}
 use Rattle.doll_schema.specs.declared.model.Schema.{Schema}
 use Rattle.doll_journal.specs.declared.change.Change.{Change}
@@ -38,3 +38,12 @@ committed schema history commit = do
   check (nat_lt (last_moment 0 history) (2 ^ 63 - 1)) (records.MomentsEnded (2 ^ 63 - 1))
   applied ← or_refused (commit_of (table_of schema history) schema commit)
   Ok (record { place = length history + 1; moment = commit.moment; ids = applied.ids })
+
+-- The keeper is called once, for a commit that nothing else refuses and for which memory is found, and else not at all.
+abbrev pub CalledOnce : {K : Type 0} → (K → Bool → K → Type 0) → K → K → Result Committed RecordFault → Type 0
+CalledOnce Called before after (Ok committed) = Called before false after
+CalledOnce Called before after (Err records.Kept) = Called before true after
+CalledOnce Called before after (Err records.Memory) = (after ≡ before) ⊎ Called before false after
+CalledOnce Called before after (Err (records.HistoryFull count)) = after ≡ before
+CalledOnce Called before after (Err (records.MomentsEnded last)) = after ≡ before
+CalledOnce Called before after (Err (records.Refused index why)) = after ≡ before

@@ -2,7 +2,7 @@
 
 ghost use Rattle.std.specs.Prelude.{◌≡◌, ◌+◌, ◌<◌, ◌≤◌, ◌^◌, ◌∷◌, [], ◌++◌, length, vec_len, vec_capacity, IfOk, OnOk, OnErr, IsErrOf, IsOk};
 ghost use Rattle.doll_base.specs.Faults.{KeepsCount, HasCause};
-ghost use Rattle.doll_keep.specs.Kept.{Added};
+ghost use Rattle.doll_keep.specs.Kept.{Added, has_failed};
 ghost use Rattle.doll_journal.specs.Seen.{GivesSeen};
 ghost use Rattle.doll_journal.specs.Spelling.{spelling};
 ghost use Rattle.doll_journal.specs.Storable.{AreStorable};
@@ -10,7 +10,7 @@ ghost use Rattle.doll_table.specs.Fits.{Fits};
 ghost use Rattle.doll_commit.specs.Commits.{commit_of};
 ghost use Rattle.doll_commit.specs.Moments.{CarriesMoment};
 ghost use Rattle.doll_records.specs.Histories.{table_of, next_moment};
-ghost use Rattle.doll_records.specs.Commitments.{asked, committed, or_refused, made};
+ghost use Rattle.doll_records.specs.Commitments.{asked, committed, or_refused, made, CalledOnce};
 ghost use Rattle.doll_records.specs.Faults.{GivesKept};
 ghost use Rattle.doll_records.specs.declared.fault.RecordFault.TheVariants as faults;
 
@@ -43,7 +43,7 @@ pub struct Committed {
     pub ids: Ids,
 }
 
-/// All that takes memory for a commit.
+/// What a commit takes of memory beside the room in the history and what the keeper takes.
 #[derive(Drop)]
 struct Prepared {
     table: SharedTable,
@@ -103,6 +103,7 @@ fn keep<K: Keeper>(
     ensures same { OnErr result (history.new.items ≡ history.old.items) }
     ensures cause { HasCause KeepFault.Failed (K.faults keeper.old) (K.faults keeper.new) result }
     ensures count { KeepsCount (K.faults keeper.old) (K.faults keeper.new) }
+    ensures called { K.called keeper.old (has_failed result) keeper.new }
 {
     keeper.append(alloc, bytes)?;
     let _ = history.push(commit);
@@ -134,6 +135,7 @@ impl<K: Keeper> Records<K> {
         ensures kept { OnErr result (K.kept self.new.keeper ≡ K.kept self.old.keeper) }
         ensures cause { HasCause faults.Kept (K.faults self.old.keeper) (K.faults self.new.keeper) result }
         ensures count { KeepsCount (K.faults self.old.keeper) (K.faults self.new.keeper) }
+        ensures called { CalledOnce K.called self.old.keeper self.new.keeper result }
     {
         if self.history.len() as u64 >= MOST_COMMITS {
             return Err(RecordFault::HistoryFull {

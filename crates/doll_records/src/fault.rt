@@ -22,7 +22,7 @@ pub enum OpenFault {
     Moment { index: u64, moment: u64 },
     /// The commit's change with the index `index_in`, counted from 0, is refused.
     Apply { index: u64, index_in: u32, why: Why },
-    /// There are more items than a history has commits.
+    /// There are more items than a history may have commits.
     TooLong { limit: u64 },
     /// No memory was found.
     Memory,

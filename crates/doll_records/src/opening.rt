@@ -1,8 +1,9 @@
 //! Opening the history that a keeper keeps.
 
-ghost use Rattle.std.specs.Prelude.{◌≡◌, ◌<◌, ◌∷◌, [], ◌++◌, map, length, IfOk, IsErrOf};
+ghost use Rattle.std.specs.Prelude.{◌≡◌, ◌+◌, ◌<◌, ◌≤◌, ◌∷◌, [], ◌++◌, ℕ, map, length, IfOk, IsErrOf};
 ghost use Rattle.doll_base.specs.Faults.{Rose, KeepsCount, HasCause};
 ghost use Rattle.doll_expr.specs.Gives.{Gives};
+ghost use Rattle.doll_keep.specs.Calls.{Serves, FailsAfter};
 ghost use Rattle.doll_journal.specs.Reading as journal;
 ghost use Rattle.doll_journal.specs.Seen.{GivesSeen};
 ghost use Rattle.doll_journal.specs.Spelling.{spelling};
@@ -141,6 +142,9 @@ pub fn replay<K: Keeper>(alloc: Global, keeper: &mut K, schema: &Schema) -> Resu
     ensures same { K.kept keeper.new ≡ K.kept keeper.old }
     ensures cause { HasCause faults.Kept (K.faults keeper.old) (K.faults keeper.new) result }
     ensures count { KeepsCount (K.faults keeper.old) (K.faults keeper.new) }
+    // The keeper is called for each item and once more.
+    ensures served { IfOk result (λ past. Serves K.called (length past.history.items + 1) keeper.old keeper.new) }
+    ensures failed { IsErrOf result faults.Kept → (calls : ℕ) × calls ≤ most_commits × FailsAfter K.called calls keeper.old keeper.new }
 {
     let mut past = no_past(alloc, schema)?;
     for index in 0..MOST_COMMITS {
@@ -158,14 +162,17 @@ pub fn replay<K: Keeper>(alloc: Global, keeper: &mut K, schema: &Schema) -> Resu
 }
 
 impl<K: Keeper + Drop> Records<K> {
-    /// Opens the history that a keeper keeps. The keeper's list stays; after a refusal the keeper is let go.
+    /// Opens the history that a keeper keeps. After a refusal the keeper is gone, and a clause speaks of it only where it failed;
+    /// `replay`, which borrows the keeper, promises that its list stays whatever the answer.
     pub fn open(alloc: Global, mut keeper: K, schema: Schema) -> Result<Records<K>, OpenFault>
         ensures exact { OfList (K.kept keeper) (λ items. GivesKept (λ records. records.history) faults.Kept faults.Memory (opened schema items) result) }
         ensures schema { IfOk result (λ records. records.schema ≡ schema) }
         ensures same { IfOk result (λ records. K.kept records.keeper ≡ K.kept keeper) }
         ensures count { IfOk result (λ records. KeepsCount (K.faults keeper) (K.faults records.keeper)) }
-        // The keeper failed, as its count of faults said when it was let go.
-        ensures cause { IsErrOf result faults.Kept → (last : K) × (K.kept last ≡ K.kept keeper) × Rose (K.faults keeper) (K.faults last) }
+        // The keeper is called for each item and once more.
+        ensures served { IfOk result (λ records. Serves K.called (length records.history + 1) keeper records.keeper) }
+        // The keeper failed in the last of some calls, as its count of faults said when it was let go.
+        ensures cause { IsErrOf result faults.Kept → (last : K) × (K.kept last ≡ K.kept keeper) × Rose (K.faults keeper) (K.faults last) × ((calls : ℕ) × calls ≤ most_commits × FailsAfter K.called calls keeper last) }
     {
         let Past {
             history,

@@ -1,36 +1,40 @@
 use Rattle.std.proofs.Common.{◌≡◌, ◌+◌, ◌<◌, length, Some, None, ◌∙◌, sym, refl, le_refl, le_trans, arith}
 use Rattle.std.proofs.lemmas.Result.{err_from_is_err_and}
+use Rattle.doll_keep.proofs.Serving.{serves_none, serves_more}
 use Rattle.doll_records.specs.declared.fault.OpenFault.TheVariants as faults
 use Rattle.doll_records.specs.Histories.{most_commits}
 use Rattle.doll_records.proofs.Replays.{replays_none, replays_more, one_more, at_place, ends, stops, faulty, too_long}
 use Rattle.doll_records.proofs.opening.replay.Goals as goal
 
 pub loop-index-init : goal.loop-index-init
-loop-index-init g c = record {
-  holds = c.in_ok-past.ensures.holds;
-  index = rw c.in_ok-past.ensures.none refl;
-  replays = replays_none c.args.schema.now (g.K.Keeper.kept c.args.keeper.now) c.in_ok-past.past.history.items c.in_ok-past.ensures.none;
-  same = refl;
-  count = le_refl _;
-}
+loop-index-init g c = (
+  record {
+    holds = c.in_ok-past.ensures.holds;
+    index = rw c.in_ok-past.ensures.none refl;
+    replays = replays_none c.args.schema.now (g.K.Keeper.kept c.args.keeper.now) c.in_ok-past.past.history.items c.in_ok-past.ensures.none;
+    same = refl;
+    count = le_refl _;
+  },
+  serves_none g.K.Keeper.called c.args.keeper.now,
+)
 
 pub returns-in_default-clause-exact : goal.returns-in_default-clause-exact
 returns-in_default-clause-exact g c =
-    let inv = c.loop-index.invariant in
+    let inv = c.loop-index.invariant.0 in
     let kept = g.K.Keeper.kept c.args.keeper.now in
     (ends c.args.schema.now kept c.loop-index.past.history.items
     (at_place kept (g.K.Keeper.kept c.loop-index.keeper) c.loop-index.past.history.items c.loop-index.index c.in_ok-item.field-0 None inv.same inv.index c.in_default.is c.in_ok-item.ensures.item) inv.replays).0
 
 pub returns-in_default-clause-spelled : goal.returns-in_default-clause-spelled
 returns-in_default-clause-spelled g c =
-    let inv = c.loop-index.invariant in
+    let inv = c.loop-index.invariant.0 in
     let kept = g.K.Keeper.kept c.args.keeper.now in
     (ends c.args.schema.now kept c.loop-index.past.history.items
     (at_place kept (g.K.Keeper.kept c.loop-index.keeper) c.loop-index.past.history.items c.loop-index.index c.in_ok-item.field-0 None inv.same inv.index c.in_default.is c.in_ok-item.ensures.item) inv.replays).1
 
 pub returns-in_err-past-2-clause-exact : goal.returns-in_err-past-2-clause-exact
 returns-in_err-past-2-clause-exact g c =
-    let inv = c.loop-index.invariant in
+    let inv = c.loop-index.invariant.0 in
     let kept = g.K.Keeper.kept c.args.keeper.now in
     let room : length c.loop-index.past.history.items < most_commits = rw (← inv.index) c.loop-index-test.true in
     let p = err_from_is_err_and c.from_residual-in_err-past-2.result c.from_residual-in_err-past-2.ensures.1 in
@@ -40,25 +44,27 @@ returns-in_err-past-2-clause-exact g c =
 
 pub loop-index-preserved : goal.loop-index-preserved
 loop-index-preserved g c =
-    let inv = c.loop-index.invariant in
+    let inv = c.loop-index.invariant.0 in
     let kept = g.K.Keeper.kept c.args.keeper.now in
     let history = c.loop-index.past.history.items in
     let next = c.in_ok-past-2.past.history.items in
     let room : length c.loop-index.past.history.items < most_commits = rw (← inv.index) c.loop-index-test.true in
     let more = rw c.as_slice.ensures.value at c.in_ok-past-2.ensures.item in
-    let count : length c.in_ok-past-2.past.history.items ≡ length c.loop-index.past.history.items + 1 = one_more c.loop-index.past.history.items c.in_ok-past-2.past.history.items c.in-Some.item.items more in
-    record {
-      holds = c.in_ok-past-2.ensures.holds;
-      index = omega arith;
-      replays = replays_more c.args.schema.now kept c.loop-index.past.history.items c.in_ok-past-2.past.history.items c.in-Some.item room more (rw c.as_slice.ensures.value at c.in_ok-past-2.ensures.exact)
-          (at_place kept (g.K.Keeper.kept c.loop-index.keeper) c.loop-index.past.history.items c.loop-index.index c.in_ok-item.field-0 (Some c.in-Some.item) inv.same inv.index c.in-Some.is c.in_ok-item.ensures.item) inv.replays;
-      same = c.load.ensures.same ∙ inv.same;
-      count = le_trans inv.count c.load.ensures.count;
-    }
+    let count : length c.in_ok-past-2.past.history.items ≡ length c.loop-index.past.history.items + 1 = one_more c.loop-index.past.history.items c.in_ok-past-2.past.history.items c.in-Some.item.items more in (
+      record {
+        holds = c.in_ok-past-2.ensures.holds;
+        index = omega arith;
+        replays = replays_more c.args.schema.now kept c.loop-index.past.history.items c.in_ok-past-2.past.history.items c.in-Some.item room more (rw c.as_slice.ensures.value at c.in_ok-past-2.ensures.exact)
+            (at_place kept (g.K.Keeper.kept c.loop-index.keeper) c.loop-index.past.history.items c.loop-index.index c.in_ok-item.field-0 (Some c.in-Some.item) inv.same inv.index c.in-Some.is c.in_ok-item.ensures.item) inv.replays;
+        same = c.load.ensures.same ∙ inv.same;
+        count = le_trans inv.count c.load.ensures.count;
+      },
+      serves_more g.K.Keeper.called c.loop-index.index c.args.keeper.now c.loop-index.keeper c.load.new.self c.loop-index.invariant.1 c.in_ok-item.ensures.called,
+    )
 
 pub returns-in-Some-2-clause-exact : goal.returns-in-Some-2-clause-exact
 returns-in-Some-2-clause-exact g c =
-    let inv = c.loop-index.invariant in
+    let inv = c.loop-index.invariant.0 in
     let kept = g.K.Keeper.kept c.args.keeper.now in
     let full : most_commits ≡ length c.loop-index.past.history.items = omega arith in
     stops c.args.schema.now kept c.loop-index.past.history.items c.in-Some-2.field-0 (faults.TooLong most_commits)
@@ -67,7 +73,7 @@ returns-in-Some-2-clause-exact g c =
 
 pub returns-in-None-clause-exact : goal.returns-in-None-clause-exact
 returns-in-None-clause-exact g c =
-    let inv = c.loop-index.invariant in
+    let inv = c.loop-index.invariant.0 in
     let kept = g.K.Keeper.kept c.args.keeper.now in
     let full : most_commits ≡ length c.loop-index.past.history.items = omega arith in
     (ends c.args.schema.now kept c.loop-index.past.history.items
@@ -75,8 +81,16 @@ returns-in-None-clause-exact g c =
 
 pub returns-in-None-clause-spelled : goal.returns-in-None-clause-spelled
 returns-in-None-clause-spelled g c =
-    let inv = c.loop-index.invariant in
+    let inv = c.loop-index.invariant.0 in
     let kept = g.K.Keeper.kept c.args.keeper.now in
     let full : most_commits ≡ length c.loop-index.past.history.items = omega arith in
     (ends c.args.schema.now kept c.loop-index.past.history.items
     (at_place kept (g.K.Keeper.kept c.loop-index.keeper) c.loop-index.past.history.items most_commits c.in_ok-load.field-0 None inv.same full c.in-None.is c.in_ok-load.ensures.item) inv.replays).1
+
+pub returns-in_default-clause-served : goal.returns-in_default-clause-served
+returns-in_default-clause-served g c =
+    rw (← c.loop-index.invariant.0.index) (serves_more g.K.Keeper.called c.loop-index.index c.args.keeper.now c.loop-index.keeper c.load.new.self c.loop-index.invariant.1 c.in_ok-item.ensures.called)
+
+pub returns-in-None-clause-served : goal.returns-in-None-clause-served
+returns-in-None-clause-served g c =
+    rw (← c.loop-index.invariant.0.index) (serves_more g.K.Keeper.called c.loop-index.index c.args.keeper.now c.loop-index.keeper c.load-2.new.self c.loop-index.invariant.1 c.in_ok-load.ensures.called)
