@@ -1,6 +1,6 @@
 -- Histories: commits whose moments rise, each accepted over the table that those before it leave (this project's own).
-use Rattle.std.specs.Prelude.{ℕ, ◌+◌, ◌^◌, ◌≡◌, ◌≤◌, nat_lt, nat_le, Bool, true, ◌&&◌, List, [], ◌∷◌, map, take, length, Option, None, Some, IsSome, IsTrue, Result, Ok, Err, min, max}
-use Rattle.std.specs.List.{take_while, AllByRecursion}
+use Rattle.std.specs.Prelude.{ℕ, ◌+◌, ◌^◌, ◌≡◌, ◌≤◌, nat_lt, nat_le, Bool, true, ◌&&◌, List, [], ◌∷◌, map, filter, take, length, Option, None, Some, IsSome, IsTrue, Result, Ok, Err, min, max}
+use Rattle.std.specs.List.{AllByRecursion}
 use Rattle.std.specs.Option.{option_map_or}
 use Rattle.doll_schema.specs.declared.model.Schema.{Schema}
 use Rattle.doll_journal.specs.declared.change.Commit.{Commit}
@@ -39,9 +39,13 @@ last_moment before (commit ∷ commits) = last_moment commit.moment commits
 abbrev pub moment_at : List Commit → ℕ → ℕ
 moment_at history place = last_moment 0 (take place history)
 
+-- the commits of a history with moments up to this one
+abbrev pub up_to : List Commit → ℕ → List Commit
+up_to history moment = filter (λ (c : Commit). nat_le c.moment moment) history
+
 -- the table after the commits of a history up to a moment
 abbrev pub table_up_to : Schema → List Commit → ℕ → Option TableMap
-table_up_to schema history moment = made_on schema (empty_table schema) (take_while (λ (c : Commit). nat_le c.moment moment) history)
+table_up_to schema history moment = made_on schema (empty_table schema) (up_to history moment)
 
 -- a commit's moment is above one before it, and not above 2^63 - 1
 abbrev pub follows : ℕ → Commit → Bool
@@ -57,9 +61,11 @@ pub record IsHistory (schema : Schema) (history : List Commit) : Type 0 where
   pub rises : IsTrue (rise 0 history)
   pub accepted : IsSome (table_at schema history (length history))
 
--- in a history the table up to the moment at a place is the table at that place
+-- in a history the commits up to the moment at a place are the first ones, so many of them, and the table up to that
+-- moment is the table at that place
 abbrev pub MomentsTellPlaces : Type 0
-MomentsTellPlaces = (schema : Schema) (history : List Commit) (place : ℕ) → IsHistory schema history → place ≤ length history → table_up_to schema history (moment_at history place) ≡ table_at schema history place
+MomentsTellPlaces = (schema : Schema) (history : List Commit) (place : ℕ) → IsHistory schema history → place ≤ length history
+    → (up_to history (moment_at history place) ≡ take place history) × (table_up_to schema history (moment_at history place) ≡ table_at schema history place)
 
 -- the most commits of a history
 abbrev pub most_commits : ℕ

@@ -134,7 +134,8 @@ impl<K: Keeper> Records<K> {
     }
 }
 
-/// A moment of a history tells the place of its commit, and so the table after it.
+/// A moment of a history tells the place of its commit: the commits with moments up to it are the first ones to that
+/// place. So it tells the table after it too.
 pub fn moments_tell_places()
     ensures { MomentsTellPlaces }
 {}
