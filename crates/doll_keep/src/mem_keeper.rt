@@ -1,7 +1,7 @@
 //! A keeper in memory.
 
-ghost use Rattle.std.specs.Prelude.{◌≡◌, ◌∷◌, ◌++◌, [], ◌↔◌, Some, IfOk, OnOk, OnErr, IsErr, IsErrOf, IsTrue, slice_get};
-ghost use Rattle.doll_base.specs.Faults.{KeepsCount, HasCause, is_due, after_call};
+ghost use Rattle.std.specs.Prelude.{◌≡◌, ◌∷◌, ◌++◌, [], Some, IfOk, OnOk, OnErr};
+ghost use Rattle.doll_base.specs.Faults.{KeepsCount, HasCause};
 ghost use Rattle.doll_keep.specs.Kept.{GivesItem, contents, has_failed};
 ghost use Rattle.doll_keep.specs.Calls.{MemCalled, NeverFails};
 ghost use Rattle.doll_keep.specs.declared.keeper.KeepFault.TheVariants.{Failed, Memory};

@@ -1,5 +1,5 @@
 -- The first commits of a history are those up to a moment.
-use Rattle.std.proofs.Common.{◌≡◌, ℕ, zero, suc, ◌<◌, ◌≤◌, true, false, List, [], ◌∷◌, take, filter, IsTrue, nat_le, ap, refl, le_refl, arith}
+use Rattle.std.proofs.Common.{◌≡◌, ℕ, zero, suc, ◌<◌, ◌≤◌, true, false, List, [], ◌∷◌, take, IsTrue, nat_le, ap, refl, le_refl, arith}
 use Rattle.std.proofs.lemmas.Bool.{and_parts, le-leb, lt-leb}
 use Rattle.doll_journal.specs.declared.change.Commit.{Commit}
 use Rattle.doll_table.specs.Tables.{empty_table}

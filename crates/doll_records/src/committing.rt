@@ -135,6 +135,7 @@ impl<K: Keeper> Records<K> {
         ensures kept { OnErr result (K.kept self.new.keeper ≡ K.kept self.old.keeper) }
         ensures cause { HasCause faults.Kept (K.faults self.old.keeper) (K.faults self.new.keeper) result }
         ensures count { KeepsCount (K.faults self.old.keeper) (K.faults self.new.keeper) }
+        // The keeper is called once for a commit that nothing else refuses, and else not at all.
         ensures called { CalledOnce K.called self.old.keeper self.new.keeper result }
     {
         if self.history.len() as u64 >= MOST_COMMITS {

@@ -60,20 +60,20 @@ fn commit_in(alloc: Global, index: u64, item: &[u8]) -> Result<Commit, OpenFault
     }
 }
 
-/// A commit made on the table that those before it leave.
+/// A commit made on the table that those before it leave, which is used up, so that no item copies a table.
 fn applied_at(
     alloc: Global,
     index: u64,
     schema: &Schema,
-    table: &Table,
+    table: Table,
     commit: &Commit,
 ) -> Result<Applied, OpenFault>
-    requires fits { Fits schema.now table.now }
-    ensures exact { Gives OpenFault.Memory (or_apply index (commit_of table.now schema.now commit.now)) result }
+    requires fits { Fits schema.now table }
+    ensures exact { Gives OpenFault.Memory (or_apply index (commit_of table schema.now commit.now)) result }
     ensures fits { IfOk result (λ applied. Fits schema.now applied.table) }
     ensures blame { IsErrOf result faults.Kept → ⊥ }
 {
-    match apply::apply(alloc, table, schema, commit) {
+    match apply::apply_to(alloc, table, schema, commit) {
         Ok(applied) => Ok(applied),
         Err(
             CommitFault::Refused {
@@ -124,7 +124,7 @@ fn with_item(
             moment: commit.moment,
         });
     }
-    let applied = applied_at(alloc, index, schema, &table, &commit)?;
+    let applied = applied_at(alloc, index, schema, table, &commit)?;
     let moment = commit.moment;
     history.push(commit)?;
     Ok(Past {
