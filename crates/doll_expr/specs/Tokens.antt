@@ -161,7 +161,7 @@ front after_dot at bytes =
 abbrev pub is_space : ℕ → Bool
 is_space b = b == 32 || b == 9 || b == 13 || b == 10
 
--- whether a token is this mark, by the kit's `==` on kinds that hold nothing
+-- whether a token is this mark; `sameb` is the kit's word for `==` on an enum whose variants hold nothing
 abbrev pub is_mark : Mark → TokenKind → Bool
 is_mark m (kind.Mark other) = sameb marks_type other m
 is_mark m _ = false
