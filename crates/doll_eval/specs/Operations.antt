@@ -15,9 +15,11 @@ use Rattle.doll_schema.specs.declared.value.Value.TheVariants as value
 use Rattle.doll_schema.specs.declared.value.Val.{Val}
 use Rattle.doll_schema.specs.declared.value.Val.TheVariants as val
 
+-- nil as a value of a template
 abbrev pub nil : Val
 nil = val.Plain value.Nil
 
+-- true or false as a value of a template
 abbrev pub truth : Bool → Val
 truth b = val.Plain (value.Bool b)
 
@@ -34,6 +36,7 @@ whole n = (if has_64_bits n then val.Plain (value.Int n) else nil)
 abbrev pub whole_if : Option ℤ → Val
 whole_if number = option_map_or (λ n. val.Plain (value.Int n)) number nil
 
+-- whether a value is nil, which a record or a list never is
 abbrev pub is_nil : Val → Bool
 is_nil (val.Plain value.Nil) = true
 is_nil v = false
@@ -57,10 +60,12 @@ asked query.Empty v = option_map_or (λ n. truth (n == 0)) (size_of v) nil
 asked query.Any v = option_map_or (λ n. truth (not (n == 0))) (size_of v) nil
 asked query.IsNil v = truth (is_nil v)
 
+-- a number with its sign changed, nil of all else
 abbrev pub negated : Val → Val
 negated (val.Plain (value.Int n)) = whole (neg_ℤ n)
 negated v = nil
 
+-- single values are the same where they are of one kind and hold the same
 abbrev pub same_value : Value → Value → Bool
 same_value value.Nil value.Nil = true
 same_value (value.Bool a) (value.Bool b) = (if a then b else not b)
@@ -81,15 +86,18 @@ compared (val.Plain (value.Int a)) (val.Plain (value.Int b)) = Some (int_cmp a b
 compared (val.Plain (value.Text a)) (val.Plain (value.Text b)) = Some (slice_cmp nat_cmp a b)
 compared a b = None
 
+-- numbers are added, texts joined; all else gives nil
 abbrev pub added : Val → Val → Val
 added (val.Plain (value.Int a)) (val.Plain (value.Int b)) = whole (a +ℤ b)
 added (val.Plain (value.Text a)) (val.Plain (value.Text b)) = val.Plain (value.Text (a ++ b))
 added a b = nil
 
+-- the difference of two numbers, nil of all else
 abbrev pub subtracted : Val → Val → Val
 subtracted (val.Plain (value.Int a)) (val.Plain (value.Int b)) = whole (a -ℤ b)
 subtracted a b = nil
 
+-- the product of two numbers, nil of all else
 abbrev pub multiplied : Val → Val → Val
 multiplied (val.Plain (value.Int a)) (val.Plain (value.Int b)) = whole (a *ℤ b)
 multiplied a b = nil

@@ -91,6 +91,7 @@ meaning_step (Expr-F.Neg of) vars schema table =
     record { value = negated from.value; looks = from.looks }
 meaning_step (Expr-F.Binary op left right) vars schema table = binary op (left vars schema table) (right vars schema table)
 
+-- what an expression means
 abbrev pub meaning_of : Expr → Meaning
 meaning_of = fold-Expr Meaning meaning_step
 

@@ -47,7 +47,7 @@ pub fn negate(value: Val) -> Val
     ensures { result ≡ of.negated value }
 {
     match value {
-        Val::Plain(Value::Int(n)) => whole(n.checked_neg()),
+        Val::Plain(Value::Int(n)) => whole_if(n.checked_neg()),
         _ => nil(),
     }
 }
@@ -82,7 +82,7 @@ pub fn operate(alloc: Global, op: Op, left: Val, right: Val) -> Result<Val, Memo
     }
 }
 
-/// Whether a value is nil or false.
+/// The opposite of a value in a test: true of nil and false, and false of all else.
 pub fn not(value: Val) -> Val
     ensures { result ≡ of.truth (not (of.is_true value)) }
 {
@@ -101,8 +101,8 @@ pub fn truth(held: bool) -> Val
     Val::Plain(Value::Bool(held))
 }
 
-/// A number that may have overflowed.
-fn whole(number: Option<i64>) -> Val
+/// A number, nil where there is none since it would have more than 64 bits.
+fn whole_if(number: Option<i64>) -> Val
     ensures { result ≡ of.whole_if number }
 {
     match number {
@@ -112,7 +112,7 @@ fn whole(number: Option<i64>) -> Val
 }
 
 /// A number of 64 bits without a sign, nil where it has no place among those with one.
-pub fn whole_from(number: u64) -> Val
+pub fn whole(number: u64) -> Val
     ensures { result ≡ of.whole (pos number) }
 {
     match i64::try_from(number) {
@@ -141,7 +141,7 @@ fn size(value: &Val) -> Val
     ensures { result ≡ of.asked Query.Size value.now }
 {
     match size_of(value) {
-        Some(n) => whole_from(n as u64),
+        Some(n) => whole(n as u64),
         None => nil(),
     }
 }
@@ -222,7 +222,7 @@ fn subtract(left: &Val, right: &Val) -> Val
     ensures { result ≡ of.subtracted left.now right.now }
 {
     match (left, right) {
-        (Val::Plain(Value::Int(a)), Val::Plain(Value::Int(b))) => whole(a.checked_sub(*b)),
+        (Val::Plain(Value::Int(a)), Val::Plain(Value::Int(b))) => whole_if(a.checked_sub(*b)),
         _ => nil(),
     }
 }
@@ -232,7 +232,7 @@ fn multiply(left: &Val, right: &Val) -> Val
     ensures { result ≡ of.multiplied left.now right.now }
 {
     match (left, right) {
-        (Val::Plain(Value::Int(a)), Val::Plain(Value::Int(b))) => whole(a.checked_mul(*b)),
+        (Val::Plain(Value::Int(a)), Val::Plain(Value::Int(b))) => whole_if(a.checked_mul(*b)),
         _ => nil(),
     }
 }
@@ -242,7 +242,7 @@ fn add(alloc: Global, left: &Val, right: &Val) -> Result<Val, Memory>
     ensures { IfOk result (λ v. v ≡ of.added left.now right.now) }
 {
     match (left, right) {
-        (Val::Plain(Value::Int(a)), Val::Plain(Value::Int(b))) => Ok(whole(a.checked_add(*b))),
+        (Val::Plain(Value::Int(a)), Val::Plain(Value::Int(b))) => Ok(whole_if(a.checked_add(*b))),
         (Val::Plain(Value::Text(a)), Val::Plain(Value::Text(b))) => {
             let text = join(alloc, a.as_bytes(), b.as_bytes())?;
             Ok(Val::Plain(Value::Text(text)))

@@ -14,7 +14,7 @@ ghost use Rattle.doll_eval.specs.Values.{step_looks};
 ghost use Rattle.doll_eval.specs.Operations.{nil, whole};
 
 use crate::member::Member;
-use crate::operators::{nil, whole_from};
+use crate::operators::{nil, whole};
 use doll_expr::{Copied, Ids, Memory, Name};
 use doll_schema::{Model, Schema, Val, Value};
 use doll_table::{Assoc, Rows};
@@ -194,7 +194,7 @@ fn updated_at<R: Rows>(rows: &mut R, model: u16, id: u32) -> Val
     let Some(row) = rows.row(model, id) else {
         return nil();
     };
-    whole_from(row.updated_at)
+    whole(row.updated_at)
 }
 
 /// The ids of a record's children.
