@@ -1,6 +1,6 @@
 -- The pieces of a template, one after the other.
 use Rattle.std.proofs.lemmas.List.{append-nil}
-use Rattle.std.proofs.Common.{◌≡◌, ◌≤◌, ◌<◌, ℕ, zero, suc, ◌+◌, ◌-◌, List, [], ◌∷◌, ◌++◌, length, drop, Result, Ok, Err, refl, ap, sym, ◌∙◌, arith, append_assoc, rules}
+use Rattle.std.proofs.Common.{◌≡◌, ◌≤◌, ◌<◌, ℕ, zero, suc, ◌+◌, ◌-◌, List, [], ◌∷◌, ◌++◌, length, drop, Result, Ok, Err, refl, ap, sym, ◌∙◌, arith, append_assoc}
 use Rattle.doll_erb.specs.declared.node.ErbFault.{ErbFault}
 use Rattle.doll_erb.specs.declared.piece.Tag.{Tag}
 use Rattle.doll_erb.specs.Pieces.{piece_at, IsInside}

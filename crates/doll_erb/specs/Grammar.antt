@@ -20,9 +20,11 @@ use Rattle.doll_erb.specs.Trees.{is_plain, text_of, text_nodes, role_in, arm}
 abbrev pub Does : List ℕ → Tag → Role → Type 0
 Does text piece what = role_in text piece ≡ Ok what
 
+-- a tag that opens this block
 abbrev pub IsOpening : List ℕ → Tag → Opening → Type 0
 IsOpening text piece what = Does text piece (role.Opens what)
 
+-- a tag that ends a part of a block in this way
 abbrev pub IsClosing : List ℕ → Tag → Closing → Type 0
 IsClosing text piece what = Does text piece (role.Closes what)
 

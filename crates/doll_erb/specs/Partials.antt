@@ -1,9 +1,10 @@
 -- The names of partials, as templates write them, and the comments that name one (this project's own).
-use Rattle.std.specs.Prelude.{ℕ, ◌≤◌, nat_le, Bool, not, ◌&&◌, ◌==◌, List, length, drop, Option, None, Some, if◌then◌else◌, codes}
+use Rattle.std.specs.Prelude.{ℕ, nat_le, Bool, not, ◌&&◌, ◌==◌, List, length, drop, Option, None, Some, if◌then◌else◌, codes}
 use Rattle.std.specs.List.{list_all, slice_split, after_last, take_while, prefix_len, starts_with}
 use Rattle.doll_expr.specs.Names.{is_word}
 use Rattle.doll_expr.specs.Tokens.{is_space}
 
+-- what stands between the parts of a name
 abbrev pub is_slash : ℕ → Bool
 is_slash byte = byte == 47
 
@@ -23,21 +24,23 @@ last_segment name = after_last is_slash name
 abbrev pub skip_white : List ℕ → List ℕ
 skip_white bytes = drop (prefix_len is_space bytes) bytes
 
-abbrev pub is_ink : ℕ → Bool
-is_ink byte = not (is_space byte)
+-- a byte that is no white space
+abbrev pub is_not_space : ℕ → Bool
+is_not_space byte = not (is_space byte)
 
 -- the partial's name at the front, if nothing but white space follows it
 abbrev pub only_name : List ℕ → Option (List ℕ)
 only_name bytes =
-    if is_partial (take_while is_ink bytes) && list_all is_space (drop (prefix_len is_ink bytes) bytes) then Some (take_while is_ink bytes) else None
+    if is_partial (take_while is_not_space bytes) && list_all is_space (drop (prefix_len is_not_space bytes) bytes) then Some (take_while is_not_space bytes) else None
 
 -- what goes before the name in a comment
 abbrev pub announcement : List ℕ
 announcement = codes "Template Dependency: "
 
+-- the name behind what announces it
 abbrev pub announced : List ℕ → Option (List ℕ)
-announced bytes = if starts_with (λ a b. a == b) bytes announcement then only_name (drop 21 bytes) else None
+announced bytes = if starts_with (λ a b. a == b) bytes announcement then only_name (drop (length announcement) bytes) else None
 
--- the partial that a comment names: `Template Dependency: ` and its name, with white space allowed round both
+-- the partial that a comment names: `Template Dependency: ` and directly its name, with white space allowed before the first and behind the second only
 unfoldable pub dependency_of : List ℕ → Option (List ℕ)
 dependency_of content = announced (skip_white content)

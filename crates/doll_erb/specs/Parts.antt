@@ -1,5 +1,5 @@
 -- What the reader of blocks gives, by what the blocks hold (this project's own).
-use Rattle.std.specs.Prelude.{◌≡◌, ◌≤◌, Bool, false, ℕ, ◌+◌, ◌-◌, List, [], ◌∷◌, length, drop, Option, None, Some, Result, Ok, Err, MatchResult}
+use Rattle.std.specs.Prelude.{◌≡◌, ◌≤◌, ℕ, ◌+◌, ◌-◌, List, [], ◌∷◌, length, drop, Option, None, Some, Result, Ok, Err, MatchResult}
 use Rattle.doll_expr.specs.declared.expr.Expr.{Expr}
 use Rattle.doll_erb.specs.declared.node.Node.{Node}
 use Rattle.doll_erb.specs.declared.node.ErbFault.{ErbFault}
@@ -9,7 +9,7 @@ use Rattle.doll_erb.specs.declared.role.Opening.{Opening}
 use Rattle.doll_erb.specs.declared.role.Closing.{Closing}
 use Rattle.doll_erb.specs.declared.template.Found.{Found}
 use Rattle.doll_erb.specs.declared.template.Found.TheVariants as found
-use Rattle.doll_erb.specs.Trees.{Content, Open, Read, Inward, and_then, before, at_text_end, at_closing, is_plain, role_in, by_role, content_from, block_of, opened_by, number_in, node_of, if_node}
+use Rattle.doll_erb.specs.Trees.{Open, Read, Inward, and_then, before, at_text_end, at_closing, role_in, by_role, content_from, block_of, opened_by, number_in, node_of, if_node}
 
 -- a node, if there is one
 abbrev pub maybe_node : Option Node → List Node
@@ -47,6 +47,7 @@ from_found text inward innermost block (found.Made made number rest) = before (m
 from_found text inward innermost block (found.Closes at what rest) =
     at_closing (λ next passed number. content_from text inward next passed number rest.now) innermost at block rest.now what
 
+-- what stands in an open block from a tag on, by what the tag does
 abbrev pub from_tag : List ℕ → Inward → Open → Tag → ℕ → List Tag → Read
 from_tag text inward innermost piece block pieces =
     and_then (role_in text piece) (by_role inward (λ next passed number. content_from text inward next passed number pieces) innermost piece.span.from block pieces)
@@ -56,11 +57,6 @@ abbrev pub GivesFound : List ℕ → Inward → Tag → ℕ → List Tag → Res
 GivesFound text inward piece block pieces result = MatchResult result
     (λ x. (innermost : Open) → from_tag text inward innermost piece block pieces ≡ from_found text inward innermost block x)
     (λ e. (e ≡ Memory → ⊥) → (innermost : Open) → from_tag text inward innermost piece block pieces ≡ Err e)
-
--- no text stands at the front of these pieces
-abbrev pub no_text : List ℕ → List Tag → Type 0
-no_text text [] = Unit {0}
-no_text text (piece ∷ pieces) = is_plain text piece ≡ false
 
 -- These are the last of the pieces, and together with the numbers of cache tags they have no more than before.
 pub record IsRest (block : ℕ) (pieces : List Tag) (number : ℕ) (rest : List Tag) : Type 0 where

@@ -24,6 +24,7 @@ abbrev pub line_end : List ℕ → ℕ
 line_end [] = 0
 line_end (x ∷ rest) = if x == 10 then 1 else (if begins_with 13 10 (x ∷ rest) then 2 else 0)
 
+-- a part of a text between two places
 abbrev pub span : ℕ → ℕ → Span
 span from to = record { from = from; to = to }
 

@@ -1,5 +1,5 @@
 -- What a tag means: the grammar of tags over the tokens of their content, with the first fault (this project's own, after ERB and Rails).
-use Rattle.std.specs.Prelude.{ℕ, zero, suc, ◌≡◌, Bool, true, false, ◌&&◌, ◌||◌, ◌==◌, List, [], ◌∷◌, ◌++◌, drop, bytes_eq, Option, None, Some, Result, Ok, Err, if◌then◌else◌}
+use Rattle.std.specs.Prelude.{ℕ, zero, suc, Bool, true, false, ◌&&◌, ◌||◌, List, [], ◌∷◌, ◌++◌, drop, bytes_eq, Option, None, Some, Result, Ok, Err, if◌then◌else◌}
 use Rattle.std.specs.List.{list_any}
 use Rattle.std.specs.Borrow.{Bor}
 use Rattle.doll_expr.specs.declared.expr.Expr.{Expr}
@@ -11,7 +11,7 @@ use Rattle.doll_expr.specs.declared.token.Token.{Token}
 use Rattle.doll_expr.specs.declared.token.TokenKind.{TokenKind}
 use Rattle.doll_expr.specs.declared.token.TokenKind.TheVariants as kind
 use Rattle.doll_expr.specs.Names.{is_name}
-use Rattle.doll_expr.specs.Tokens.{tokens_of}
+use Rattle.doll_expr.specs.Tokens.{is_mark, is_word, tokens_of}
 use Rattle.doll_expr.specs.Reading.{◌>>=◌, GivesBy, first_kind, place, fault_at, stops_at, too_deep, expr_at, whole_of, is_end}
 use Rattle.doll_erb.specs.declared.node.Node.{Node, roll-Node}
 use Rattle.doll_erb.specs.declared.node.Node.TheOpen.{Node-F}
@@ -25,7 +25,7 @@ use Rattle.doll_erb.specs.declared.role.Closing.TheVariants as closing
 use Rattle.doll_erb.specs.declared.render.Listed.{Listed}
 use Rattle.doll_erb.specs.declared.piece.TagKind.{TagKind}
 use Rattle.doll_erb.specs.declared.piece.TagKind.TheVariants as tag
-use Rattle.doll_erb.specs.Marks.{is_mark, is_word, mark_at, word_at}
+use Rattle.doll_erb.specs.Marks.{mark_at, word_at}
 use Rattle.doll_erb.specs.Partials.{is_partial, last_segment, dependency_of}
 
 -- a part of a tag, and the tokens after it
@@ -46,6 +46,7 @@ finished a ts = if is_end (first_kind ts) then Ok a else Err (fault_at None ts)
 unfoldable pub value_at : List Token → Front Expr
 value_at ts = expr_at ts >>= λ x. if is_mark mark.Dot (first_kind x.1) then Err (stops_at None x.1) else Ok x
 
+-- the name that a token is, and the tokens after it
 abbrev pub named : TokenKind → List Token → Front (List ℕ)
 named (kind.Name name) ts = Ok (name, drop 1 ts)
 named other ts = Err (fault_at None ts)
@@ -54,6 +55,7 @@ named other ts = Err (fault_at None ts)
 abbrev pub name_at : List Token → Front (List ℕ)
 name_at ts = named (first_kind ts) ts
 
+-- the text that names a partial, and the tokens after it
 abbrev pub called : TokenKind → List Token → Front (List ℕ)
 called (kind.Text name) ts = if is_partial name then Ok (name, drop 1 ts) else Err (fault_at None ts)
 called other ts = Err (fault_at None ts)
@@ -68,6 +70,7 @@ partial_at ts = called (first_kind ts) ts
 abbrev pub ends_part : TokenKind → Bool
 ends_part k = is_mark mark.Comma k || is_mark mark.CloseBracket k || is_word word.Do k
 
+-- an expression as a part of a key
 abbrev pub path_at : List Token → Front KeyPart
 path_at ts = value_at ts >>= λ x. Ok (part.Path x.0, x.1)
 
@@ -81,9 +84,11 @@ part_by (kind.Text text) ts = if ends_part (first_kind (drop 1 ts)) then Ok (par
 part_by (kind.Mark mark.Colon) ts = symbol_at (drop 1 ts)
 part_by other ts = path_at ts
 
+-- a part of a key
 unfoldable pub part_at : List Token → Front KeyPart
 part_at ts = part_by (first_kind ts) ts
 
+-- the parts of a key, where the bracket closes them here
 abbrev pub closed : List KeyPart → List Token → Front (List KeyPart)
 closed parts ts = mark_at mark.CloseBracket ts >>= λ rest. Ok (parts, rest)
 
@@ -93,6 +98,7 @@ parts_from zero parts ts = closed parts ts
 parts_from (suc n) parts ts =
     if is_mark mark.Comma (first_kind ts) then (part_at (drop 1 ts) >>= λ x. parts_from n (parts ++ x.0 ∷ []) x.1) else closed parts ts
 
+-- a part as a key
 abbrev pub one_part : List Token → Front (List KeyPart)
 one_part ts = part_at ts >>= λ x. Ok (x.0 ∷ [], x.1)
 
@@ -100,14 +106,17 @@ one_part ts = part_at ts >>= λ x. Ok (x.0 ∷ [], x.1)
 abbrev pub list_at : List Token → Front (List KeyPart)
 list_at ts = one_part ts >>= λ x. parts_from 7 x.0 x.1
 
+-- a key
 unfoldable pub key_at : List Token → Front (List KeyPart)
 key_at ts = if is_mark mark.OpenBracket (first_kind ts) then list_at (drop 1 ts) else one_part ts
 
 -- ---- locals: { "," name ":" expr }, of which no two have one name
 
+-- a local by its name and its value
 abbrev pub local : List ℕ → Expr → Local
 local name value = record { name = name; value = value }
 
+-- whether one of these locals has this name
 abbrev pub has_local : List Local → List ℕ → Bool
 has_local locals name = list_any (λ (l : Local). bytes_eq l.name name) locals
 
@@ -115,6 +124,7 @@ has_local locals name = list_any (λ (l : Local). bytes_eq l.name name) locals
 abbrev pub new_name_at : List Local → List Token → Front (List ℕ)
 new_name_at locals ts = name_at ts >>= λ x. if has_local locals x.0 then Err (fault_at None ts) else Ok x
 
+-- a local with a name that none of these has
 unfoldable pub local_at : List Local → List Token → Front Local
 local_at locals ts = new_name_at locals ts >>= λ name. mark_at mark.Colon name.1 >>= λ rest. value_at rest >>= λ value. Ok (local name.0 value.0, value.1)
 
@@ -159,14 +169,17 @@ list_of ts =
     mark_at mark.Colon ts >>= λ a. partial_at a >>= λ name. mark_at mark.Comma name.1 >>= λ b. word_at word.Collection b
     >>= λ c. mark_at mark.Colon c >>= λ d. value_at d >>= λ list. Ok (listed name.0 (place a) list.0, list.1)
 
+-- the node of a collection
 abbrev pub collection : ℕ → Listed → List ℕ → Bool → Node
 collection at of item cached = roll-Node (Node-F.Collection at of.name of.list item cached)
 
+-- a collection, behind the word `partial`; a faulty name of its item is told last
 unfoldable pub collection_of : ℕ → List Token → Result Node ExprFault
 collection_of at ts =
     list_of ts >>= λ of. item_at of.1 >>= λ item. cached_at item.1 >>= λ cached. finished cached.0 cached.1
     >>= λ is_cached. item_of of.0.at of.0.name item.0 >>= λ name. Ok (collection at of.0 name is_cached)
 
+-- what is rendered, behind the word `render`
 unfoldable pub rendered : ℕ → List Token → Result Node ExprFault
 rendered at ts = if is_word word.Partial (first_kind ts) then collection_of at (drop 1 ts) else partial_of at ts
 
@@ -199,6 +212,7 @@ run_by (kind.Word word.End) ts = finished (role.Closes closing.End) (drop 1 ts)
 run_by (kind.Word word.Cache) ts = cache_of (drop 1 ts)
 run_by other ts = each_of ts
 
+-- what a tag with no mark does
 unfoldable pub run_of : List Token → Result Role ExprFault
 run_of ts = run_by (first_kind ts) ts
 
@@ -207,15 +221,19 @@ abbrev pub comment_by : ℕ → Option (List ℕ) → Role
 comment_by at (Some name) = role.Leaf (roll-Node (Node-F.Depends at name))
 comment_by at None = role.Nothing
 
+-- what a comment does
 abbrev pub comment : ℕ → List ℕ → Result Role ExprFault
 comment at content = Ok (comment_by at (dependency_of content))
 
+-- what a tag `<%=` does
 abbrev pub written : ℕ → List ℕ → Result Role ExprFault
 written at content = write_of at (tokens_of content) >>= λ node. Ok (role.Leaf node)
 
+-- what a tag `<%==` does
 abbrev pub raw : ℕ → List ℕ → Result Role ExprFault
 raw at content = whole_of (tokens_of content) >>= λ e. Ok (role.Leaf (roll-Node (Node-F.Raw at e)))
 
+-- what a tag `<%` does
 abbrev pub run : List ℕ → Result Role ExprFault
 run content = run_of (tokens_of content)
 

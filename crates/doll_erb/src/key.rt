@@ -5,9 +5,9 @@ ghost use Rattle.doll_expr.specs.Reading.{first_kind};
 ghost use Rattle.doll_erb.specs.Tags as spec;
 ghost use Rattle.doll_erb.specs.Tags.{ReadsTo};
 
-use crate::mark::{is_mark, is_word, mark_at, name_at, rest_of, value_at};
+use crate::mark::{mark_at, name_at, value_at};
 use crate::node::{Key, KeyPart};
-use doll_expr::{ExprFault, Items, Mark, Text, Token, TokenKind, Word};
+use doll_expr::{ExprFault, Items, Mark, Text, Token, TokenKind, Word, is_mark, is_word, rest_of};
 use std::alloc::Global;
 
 /// How many parts a key has at most, beside its first.

@@ -1,6 +1,6 @@
 //! What stands at the front of a tag's tokens, and what is expected there.
 
-ghost use Rattle.std.specs.Prelude.{◌≡◌, drop};
+ghost use Rattle.std.specs.Prelude.{◌≡◌};
 ghost use Rattle.doll_expr.specs.Reading as reading;
 ghost use Rattle.doll_expr.specs.Reading.{GivesBy, first_kind};
 ghost use Rattle.doll_erb.specs.Marks as spec;
@@ -8,34 +8,11 @@ ghost use Rattle.doll_erb.specs.Tags as tags;
 ghost use Rattle.doll_erb.specs.Tags.{ReadsTo};
 
 use crate::partial::is_partial;
-use doll_expr::{Expr, ExprFault, Mark, Name, Token, TokenKind, Word, expr_at, fault_at, stops_at};
+use doll_expr::{
+    Expr, ExprFault, Mark, Name, Token, TokenKind, Word, expr_at, fault_at, is_mark, is_word,
+    rest_of, stops_at,
+};
 use std::alloc::Global;
-
-/// Whether the first token is this mark.
-pub(crate) fn is_mark(mark: Mark, tokens: &[Token]) -> bool
-    ensures { result ≡ spec.is_mark mark (first_kind tokens.now) }
-{
-    let [token, ..] = tokens else {
-        return false;
-    };
-    match &token.kind {
-        TokenKind::Mark(other) => *other == mark,
-        _ => false,
-    }
-}
-
-/// Whether the first token is this word.
-pub(crate) fn is_word(word: Word, tokens: &[Token]) -> bool
-    ensures { result ≡ spec.is_word word (first_kind tokens.now) }
-{
-    let [token, ..] = tokens else {
-        return false;
-    };
-    match &token.kind {
-        TokenKind::Word(other) => *other == word,
-        _ => false,
-    }
-}
 
 /// Whether the content ends here.
 pub(crate) fn is_end(tokens: &[Token]) -> bool
@@ -45,26 +22,6 @@ pub(crate) fn is_end(tokens: &[Token]) -> bool
         return true;
     };
     matches!(&token.kind, TokenKind::End)
-}
-
-/// The place of the first token.
-pub(crate) fn place(tokens: &[Token]) -> u32
-    ensures { result ≡ reading.place tokens.now }
-{
-    match tokens {
-        [] => 0,
-        [token, ..] => token.at,
-    }
-}
-
-/// The tokens after the first.
-pub(crate) fn rest_of(tokens: &[Token]) -> &[Token]
-    ensures { result.now ≡ drop 1 tokens.now }
-{
-    match tokens {
-        [] => tokens,
-        [_, rest @ ..] => rest,
-    }
 }
 
 /// The tokens after this mark, which is expected at the front.

@@ -85,8 +85,9 @@ pub type Locals = Items<Local>;
 /// A part of a fragment's key.
 #[derive(Debug, Drop)]
 pub enum KeyPart {
-    /// A variable or a record.
+    /// Any expression; its value belongs to the key.
     Path(Expr),
+    /// A text that stands by itself, or the name behind a colon.
     Literal(Text),
 }
 

@@ -8,6 +8,7 @@ ghost use Rattle.doll_expr.specs.Tokens.{is_space};
 ghost use Rattle.doll_erb.specs.Partials as spec;
 
 use doll_expr::words::is_word;
+use doll_expr::{is_space, space_len};
 
 /// What goes before a partial's name in a comment.
 const ANNOUNCEMENT: &[u8] = b"Template Dependency: ";
@@ -64,32 +65,13 @@ pub fn last_segment(name: &[u8]) -> &[u8]
     name
 }
 
-fn is_white(byte: u8) -> bool
-    ensures { result ≡ is_space byte }
-{
-    byte == b' ' || byte == b'\t' || byte == b'\r' || byte == b'\n'
-}
-
-/// How much white space stands at the front.
-fn white_len(bytes: &[u8]) -> usize
-    ensures value { result ≡ prefix_len is_space bytes.now }
-    ensures within { result ≤ length bytes.now }
-{
-    for (len, byte) in bytes.iter().enumerate() {
-        if !is_white(*byte) {
-            return len;
-        }
-    }
-    bytes.len()
-}
-
 /// How many bytes stand before the first white space.
-fn ink_len(bytes: &[u8]) -> usize
-    ensures value { result ≡ prefix_len spec.is_ink bytes.now }
+fn len_before_space(bytes: &[u8]) -> usize
+    ensures value { result ≡ prefix_len spec.is_not_space bytes.now }
     ensures within { result ≤ length bytes.now }
 {
     for (len, byte) in bytes.iter().enumerate() {
-        if is_white(*byte) {
+        if is_space(*byte) {
             return len;
         }
     }
@@ -99,14 +81,14 @@ fn ink_len(bytes: &[u8]) -> usize
 fn is_blank(bytes: &[u8]) -> bool
     ensures { result ≡ list_all is_space bytes.now }
 {
-    bytes.iter().all(|byte| is_white(*byte))
+    bytes.iter().all(|byte| is_space(*byte))
 }
 
 /// The partial's name at the front, if nothing but white space follows it.
 fn only_name(bytes: &[u8]) -> Option<&[u8]>
     ensures { option_map (λ name. name.now) result ≡ spec.only_name bytes.now }
 {
-    let (name, rest) = bytes.split_at(ink_len(bytes));
+    let (name, rest) = bytes.split_at(len_before_space(bytes));
     if !is_partial(name) {
         return None;
     }
@@ -121,10 +103,10 @@ fn only_name(bytes: &[u8]) -> Option<&[u8]>
 pub fn dependency_of(content: &[u8]) -> Option<&[u8]>
     ensures { option_map (λ name. name.now) result ≡ spec.dependency_of content.now }
 {
-    let (_white, inner) = content.split_at(white_len(content));
+    let (_white, inner) = content.split_at(space_len(content));
     if !inner.starts_with(ANNOUNCEMENT) {
         return None;
     }
-    let (_announcement, rest) = inner.split_at(21);
+    let (_announcement, rest) = inner.split_at(ANNOUNCEMENT.len());
     only_name(rest)
 }

@@ -5,14 +5,15 @@ ghost use Rattle.doll_expr.specs.Gives.{Gives};
 ghost use Rattle.doll_erb.specs.Tags as spec;
 
 use crate::key::key_at;
-use crate::mark::{is_end, is_word, mark_at, name_at, rest_of, word_at};
+use crate::mark::{is_end, mark_at, name_at, word_at};
 use crate::node::Node;
 use crate::partial::dependency_of;
 use crate::piece::TagKind;
 use crate::render::rendered;
 use crate::role::{Closing, Opening, Role};
 use doll_expr::{
-    ExprFault, Mark, Name, Token, TokenKind, Word, expr_at, fault_at, tokens_of, whole_expr,
+    ExprFault, Mark, Name, Token, TokenKind, Word, expr_at, fault_at, is_word, rest_of, tokens_of,
+    whole_expr,
 };
 use std::alloc::Global;
 

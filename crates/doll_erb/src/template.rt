@@ -5,7 +5,7 @@ ghost use Rattle.doll_expr.specs.Gives.{Gives};
 ghost use Rattle.doll_erb.specs.declared.node.ErbFault.TheVariants.{Memory};
 ghost use Rattle.doll_erb.specs.declared.node.Node.{Node, roll-Node};
 ghost use Rattle.doll_erb.specs.declared.node.Node.TheOpen.{Node-F};
-ghost use Rattle.doll_erb.specs.Grammar.{IsTemplate, OneTree};
+ghost use Rattle.doll_erb.specs.Grammar.{BeginsWithTag, IsTemplate, OneTree};
 ghost use Rattle.doll_erb.specs.Trees as spec;
 ghost use Rattle.doll_erb.specs.Trees.{Open};
 ghost use Rattle.doll_erb.specs.Parts as parts;
@@ -139,7 +139,7 @@ fn front_text<'a>(
     ensures text { IfOk result (λ x. x.0.items ≡ spec.front_text text.now tags.now) }
     ensures rest { IfOk result (λ x. x.1.now ≡ drop (spec.front_len text.now tags.now) tags.now) }
     ensures shorter { IfOk result (λ x. length x.1.now ≤ length tags.now) }
-    ensures stops { IfOk result (λ x. parts.no_text text.now x.1.now) }
+    ensures stops { IfOk result (λ x. BeginsWithTag text.now x.1.now) }
 {
     let mut bytes = Vec::new(alloc);
     let mut rest = tags;

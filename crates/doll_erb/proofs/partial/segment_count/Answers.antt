@@ -1,4 +1,4 @@
-use Rattle.std.proofs.Common.{◌≡◌, ◌∙◌, ◌+◌, sym, ap}
+use Rattle.std.proofs.Common.{◌∙◌, ◌+◌, sym, ap}
 use Rattle.std.proofs.lemmas.List.Splits.{length-slice_split}
 use Rattle.doll_erb.specs.Partials.{is_slash}
 use Rattle.doll_erb.proofs.partial.segment_count.Goals as goal

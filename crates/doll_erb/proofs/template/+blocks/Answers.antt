@@ -1,12 +1,11 @@
-use Rattle.std.proofs.Common.{◌≡◌, ◌≤◌, ◌++◌, ◌+◌, ℕ, List, Ok, Err, length, drop, rules, sym, ap, ◌∙◌, refl, false, arith}
+use Rattle.std.proofs.Common.{◌≡◌, ◌≤◌, ◌+◌, List, rules, sym, ap, ◌∙◌, false, arith}
 use Rattle.std.proofs.lemmas.Result.{err_from_is_err_and}
 use Rattle.doll_erb.specs.declared.node.Node.{Node}
 use Rattle.doll_erb.specs.declared.node.Node.TheVariants.{rolls-Each, rolls-Cache}
-use Rattle.doll_erb.specs.declared.node.ErbFault.{ErbFault}
 use Rattle.doll_erb.specs.declared.template.Found.{Found}
 use Rattle.doll_erb.specs.Trees as spec
 use Rattle.doll_erb.specs.Trees.{Open, before, content_from, block_of}
-use Rattle.doll_erb.specs.Parts.{from_found, from_tag, found_rest, maybe_node, IsRest}
+use Rattle.doll_erb.specs.Parts.{from_found, maybe_node, IsRest}
 use Rattle.doll_erb.proofs.Blocks.{at_tag, at_no_tag, before_before, rest_behind_tag, rest_of_rest, rest_fewer}
 use Rattle.doll_erb.proofs.BlockParts.{too_deep, each_made, each_fault, cache_made, cache_fault, if_same, tag_opens, from_else, arm_last_fault, done}
 use Rattle.doll_erb.proofs.template.+blocks.Goals as goal

@@ -1,4 +1,4 @@
-use Rattle.std.proofs.Common.{rules, ◌≡◌, ◌++◌, true, false, length, sym, ap, ◌∙◌, arith}
+use Rattle.std.proofs.Common.{rules, ◌≡◌, ◌++◌, true, sym, ap, ◌∙◌, arith}
 use Rattle.doll_erb.specs.Trees as spec
 use Rattle.doll_erb.proofs.Blocks.{text_more, rest_more, text_stops, rest_stops, text_ends}
 use Rattle.doll_erb.proofs.template.front_text.Goals as goal
