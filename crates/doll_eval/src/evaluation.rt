@@ -42,18 +42,9 @@ pub fn eval<R: Rows>(
             let from = eval(alloc, of.get(), vars, schema, rows)?;
             step(alloc, from, name, schema, rows)
         }
-        Expr::Ask(of, query) => {
-            let of = eval(alloc, of.get(), vars, schema, rows)?;
-            Ok(ask(*query, of))
-        }
-        Expr::Not(of) => {
-            let of = eval(alloc, of.get(), vars, schema, rows)?;
-            Ok(not(of))
-        }
-        Expr::Neg(of) => {
-            let of = eval(alloc, of.get(), vars, schema, rows)?;
-            Ok(negate(of))
-        }
+        Expr::Ask(of, query) => Ok(ask(*query, eval(alloc, of.get(), vars, schema, rows)?)),
+        Expr::Not(of) => Ok(not(eval(alloc, of.get(), vars, schema, rows)?)),
+        Expr::Neg(of) => Ok(negate(eval(alloc, of.get(), vars, schema, rows)?)),
         Expr::Binary(op, left, right) => {
             let left = eval(alloc, left.get(), vars, schema, rows)?;
             if is_settled(*op, &left) {
