@@ -6,3 +6,4 @@ pub mod GrammarSteps
 pub mod GrammarOnly
 pub mod GrammarFound
 pub mod GrammarClauses
+pub mod FirstFault

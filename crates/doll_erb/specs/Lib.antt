@@ -5,4 +5,5 @@ pub mod Marks
 pub mod Tags
 pub mod Trees
 pub mod Grammar
+pub mod Faults
 pub mod Parts

@@ -6,6 +6,7 @@ ghost use Rattle.doll_erb.specs.declared.node.ErbFault.TheVariants.{Memory};
 ghost use Rattle.doll_erb.specs.declared.node.Node.{Node, roll-Node};
 ghost use Rattle.doll_erb.specs.declared.node.Node.TheOpen.{Node-F};
 ghost use Rattle.doll_erb.specs.Grammar.{BeginsWithTag, IsTemplate, OneTree};
+ghost use Rattle.doll_erb.specs.Faults.{Faults};
 ghost use Rattle.doll_erb.specs.Trees as spec;
 ghost use Rattle.doll_erb.specs.Trees.{Open};
 ghost use Rattle.doll_erb.specs.Parts as parts;
@@ -65,7 +66,9 @@ pub fn parse_template(alloc: Global, text: &str) -> Result<Tree, ErbFault>
     ensures found { IfOk result (λ tree. IsTemplate text.now tree) }
     // Each template of the grammar is accepted with its tree, unless memory runs out.
     ensures only { (tree : List Node) → IsTemplate text.now tree → Gives ErbFault.Memory (Ok tree) result }
-    // The same as one equation, and with the first fault: what reading from the left gives.
+    // What is accepted has no fault, and a refusal is the first fault by the blocks that tags open and close, unless memory ran out.
+    ensures fault { Faults text.now result }
+    // The same as one equation: what reading from the left gives.
     ensures exact { Gives ErbFault.Memory (spec.tree_of text.now) result }
 {
     read_template(alloc, text)

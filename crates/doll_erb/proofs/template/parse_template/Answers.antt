@@ -1,4 +1,5 @@
 use Rattle.doll_erb.proofs.GrammarClauses.{template_found, template_only}
+use Rattle.doll_erb.proofs.FirstFault.{template_faults}
 use Rattle.doll_erb.proofs.template.parse_template.Goals as goal
 
 pub returns-clause-found : goal.returns-clause-found
@@ -6,3 +7,6 @@ returns-clause-found c = template_found c.args.text.now c.read_template.result c
 
 pub returns-clause-only : goal.returns-clause-only
 returns-clause-only c tree is = template_only c.args.text.now c.read_template.result tree c.read_template.ensures is
+
+pub returns-clause-fault : goal.returns-clause-fault
+returns-clause-fault c = template_faults c.args.text.now c.read_template.result c.read_template.ensures
