@@ -2,6 +2,11 @@ pub mod Places
 pub mod Cuts
 pub mod Blocks
 pub mod BlockParts
+pub mod TagTokens
+pub mod TagPartsFound
+pub mod TagFound
+pub mod TagPartsOnly
+pub mod TagOnly
 pub mod GrammarSteps
 pub mod GrammarOnly
 pub mod GrammarFound

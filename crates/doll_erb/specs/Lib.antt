@@ -4,6 +4,7 @@ pub mod Partials
 pub mod Marks
 pub mod Tags
 pub mod Trees
+pub mod TagGrammar
 pub mod Grammar
 pub mod Faults
 pub mod Parts

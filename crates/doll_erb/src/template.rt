@@ -6,6 +6,7 @@ ghost use Rattle.doll_erb.specs.declared.node.ErbFault.TheVariants.{Memory};
 ghost use Rattle.doll_erb.specs.declared.node.Node.{Node, roll-Node};
 ghost use Rattle.doll_erb.specs.declared.node.Node.TheOpen.{Node-F};
 ghost use Rattle.doll_erb.specs.Grammar.{BeginsWithTag, IsTemplate, OneTree};
+ghost use Rattle.doll_erb.specs.TagGrammar.{TagsAreSentences};
 ghost use Rattle.doll_erb.specs.Faults.{Faults};
 ghost use Rattle.doll_erb.specs.Trees as spec;
 ghost use Rattle.doll_erb.specs.Trees.{Open};
@@ -77,6 +78,11 @@ pub fn parse_template(alloc: Global, text: &str) -> Result<Tree, ErbFault>
 /// No text has two trees.
 pub fn one_tree()
     ensures { OneTree }
+{}
+
+/// What a tag does by the reading from the left is what it does by the grammar of tags, and the other way round.
+pub fn tags_are_sentences()
+    ensures { TagsAreSentences }
 {}
 
 #[tactic(auto, unfolding(crate::specs::Trees::tree_of, crate::specs::Trees::whole))]
