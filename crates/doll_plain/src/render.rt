@@ -13,7 +13,9 @@ use doll_schema::{Schema, Vars};
 use doll_table::Rows;
 use std::alloc::Global;
 
-/// The page that a tree makes with these variables.
+/// The page that a tree makes with these variables: no cache is read or written, and a cached block is its body. Partials write
+/// nothing here, so a tree that names one is the caller's to keep away (the program answers `not built`). The variables must
+/// live in the table of `rows`, which must fit the schema.
 pub fn page<R: Rows>(
     alloc: Global,
     tree: &Tree,

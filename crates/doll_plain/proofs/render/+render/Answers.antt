@@ -25,15 +25,15 @@ render_node-returns-in-Cache-clause-page g t c =
 
 pub render_node-returns-then-held-clause-page : goal.render_node-returns-then-held-clause-page
 render_node-returns-then-held-clause-page g t c =
-    let env = c.args.vars.now in
+    let variables = c.args.vars.now in
     let scene = plain_scene c.args.schema.now (g.R.Rows.table c.args.rows.now) in
     let tested = tested_along c.in_ok-held-in-If.held true c.arm-item.result.test c.args.schema.now c.loop-arm.invariant.table c.loop-arm.invariant.vars c.if-held.true c.in_ok-held-in-If.ensures.value in
-    let same : direct scene c.arm-item.result.body env ≡ written scene c.args.node.now env =
-    sym (ap (λ n. written scene n env) c.in-If.is
-    ∙ if_writes scene c.in-If.at c.in-If.arms c.in-If.otherwise env
-    ∙ ap (λ arms. choosing scene arms c.in-If.otherwise env) (sym c.as_slice-arm-items.ensures)
+    let same : direct scene c.arm-item.result.body variables ≡ written scene c.args.node.now variables =
+    sym (ap (λ n. written scene n variables) c.in-If.is
+    ∙ if_writes scene c.in-If.at c.in-If.arms c.in-If.otherwise variables
+    ∙ ap (λ arms. choosing scene arms c.in-If.otherwise variables) (sym c.as_slice-arm-items.ensures)
     ∙ sym c.loop-arm.invariant.left
-    ∙ choosing_here scene c.as_slice-arm-items.result.now c.in-If.otherwise env c.loop-arm.arm-index c.arm-item.result c.loop-arm-test.true c.arm-item.is tested) in
+    ∙ choosing_here scene c.as_slice-arm-items.result.now c.in-If.otherwise variables c.loop-arm.arm-index c.arm-item.result c.loop-arm-test.true c.arm-item.is tested) in
     subst (λ p. OnOk c.render.result (c.render.new.out.items ≡ c.args.out.now.items ++ p)) same
     (moved c.render.result c.render.new.out.items c.args.schema.now (c.holds.ensures.table ∙ c.loop-arm.invariant.table) c.loop-arm.invariant.vars c.as_slice.ensures c.loop-arm.invariant.nothing c.render.ensures.page)
 
@@ -50,14 +50,14 @@ render_node-loop-arm-preserved g t c =
 
 pub render_node-returns-after-loop-arm-clause-page : goal.render_node-returns-after-loop-arm-clause-page
 render_node-returns-after-loop-arm-clause-page g t c =
-    let env = c.args.vars.now in
+    let variables = c.args.vars.now in
     let scene = plain_scene c.args.schema.now (g.R.Rows.table c.args.rows.now) in
-    let same : direct scene c.in-If.otherwise env ≡ written scene c.args.node.now env =
-    sym (ap (λ n. written scene n env) c.in-If.is
-    ∙ if_writes scene c.in-If.at c.in-If.arms c.in-If.otherwise env
-    ∙ ap (λ arms. choosing scene arms c.in-If.otherwise env) (sym c.as_slice-arm-items.ensures)
+    let same : direct scene c.in-If.otherwise variables ≡ written scene c.args.node.now variables =
+    sym (ap (λ n. written scene n variables) c.in-If.is
+    ∙ if_writes scene c.in-If.at c.in-If.arms c.in-If.otherwise variables
+    ∙ ap (λ arms. choosing scene arms c.in-If.otherwise variables) (sym c.as_slice-arm-items.ensures)
     ∙ sym c.loop-arm.invariant.left
-    ∙ choosing_last scene c.as_slice-arm-items.result.now c.in-If.otherwise env c.loop-arm.arm-index c.loop-arm-test.false) in
+    ∙ choosing_last scene c.as_slice-arm-items.result.now c.in-If.otherwise variables c.loop-arm.arm-index c.loop-arm-test.false) in
     subst (λ p. OnOk c.render-in-If.result (c.render-in-If.new.out.items ≡ c.args.out.now.items ++ p)) same
     (moved c.render-in-If.result c.render-in-If.new.out.items c.args.schema.now c.loop-arm.invariant.table c.loop-arm.invariant.vars c.as_slice-in-If.ensures c.loop-arm.invariant.nothing c.render-in-If.ensures.page)
 
@@ -114,7 +114,7 @@ render_node-loop-id-preserved g t c =
 
 pub render_node-returns-after-loop-id-clause-page : goal.render_node-returns-after-loop-id-clause-page
 render_node-returns-after-loop-id-clause-page g t c =
-    let env = c.args.vars.now in
+    let variables = c.args.vars.now in
     let before = c.args.out.now.items in
     let scene = plain_scene c.args.schema.now (g.R.Rows.table c.args.rows.now) in
     let model = c.in_ok-model-in-Each.field-0.model in
@@ -122,13 +122,13 @@ render_node-returns-after-loop-id-clause-page g t c =
     let items = c.as_slice-id-items.result.now in
     let items_are : items ≡ ids = cc c.as_slice-id-items.ensures in
     c.loop-id.invariant.so_far
-    ∙ ap (λ done. before ++ repeated scene model done c.in-Each.name c.in-Each.body env) (take_all c.loop-id.id-index items c.loop-id-test.false ∙ items_are)
-    ∙ ap (λ w. before ++ w) (sym (ap (λ n. written scene n env) c.in-Each.is ∙ each_writes scene c.in-Each.at model ids c.in-Each.list c.in-Each.name c.in-Each.body env c.in_ok-model-in-Each.ensures.value))
+    ∙ ap (λ done. before ++ repeated scene model done c.in-Each.name c.in-Each.body variables) (take_all c.loop-id.id-index items c.loop-id-test.false ∙ items_are)
+    ∙ ap (λ w. before ++ w) (sym (ap (λ n. written scene n variables) c.in-Each.is ∙ each_writes scene c.in-Each.at model ids c.in-Each.list c.in-Each.name c.in-Each.body variables c.in_ok-model-in-Each.ensures.value))
 
 pub render_node-returns-in-Collection-clause-page : goal.render_node-returns-in-Collection-clause-page
 render_node-returns-in-Collection-clause-page g t c =
-    let env = c.args.vars.now in
+    let variables = c.args.vars.now in
     let scene = plain_scene c.args.schema.now (g.R.Rows.table c.args.rows.now) in
-    sym (ap (λ w. c.args.out.now.items ++ w) (ap (λ n. written scene n env) c.in-Collection.is
-    ∙ collection_writes scene c.in-Collection.at c.in-Collection.name c.in-Collection.list c.in-Collection.item c.in-Collection.cached env (λ n e. refl))
+    sym (ap (λ w. c.args.out.now.items ++ w) (ap (λ n. written scene n variables) c.in-Collection.is
+    ∙ collection_writes scene c.in-Collection.at c.in-Collection.name c.in-Collection.list c.in-Collection.item c.in-Collection.cached variables (λ n e. refl))
     ∙ append-nil c.args.out.now.items)
