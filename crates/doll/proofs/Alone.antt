@@ -1,7 +1,6 @@
 -- Nodes with parts name no partial where their parts name none.
 use Rattle.std.proofs.Common.{◌≡◌, ℕ, suc, ◌<◌, ◌≤◌, Bool, true, false, ◌&&◌, List, [], ◌∷◌, map, length, drop, get_or, refl, ap, sym, ◌∙◌, drop-cons}
 use Rattle.std.proofs.lemmas.List.{drop_all}
-use Rattle.std.specs.List.{list_all}
 use Rattle.doll_expr.specs.declared.expr.Expr.{Expr}
 use Rattle.doll_erb.specs.declared.node.Node.{Node}
 use Rattle.doll_erb.specs.declared.node.Node as node

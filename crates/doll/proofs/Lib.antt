@@ -2,6 +2,7 @@ pub mod Alone
 pub mod Answered
 pub mod Digits
 pub mod Jsons
+pub mod Keeping
 pub mod Longs
 pub mod Made
 pub mod Members

@@ -1,9 +1,8 @@
 -- Inputs that are too long.
-use Rattle.std.proofs.Common.{◌≡◌, ◌<◌, ℕ, Bool, true, false, cond, List, [], length, replicate, Option, None, Some, Result, Ok, Err, refl, sym, ap, ◌∙◌}
+use Rattle.std.proofs.Common.{◌≡◌, ℕ, Bool, true, false, cond, List, [], length, replicate, Option, None, Some, Ok, Err, refl}
 use Rattle.std.specs.Prelude.{IfSome, nat_lt}
 use Rattle.std.proofs.lemmas.List.{length-replicate}
 use Rattle.doll_base.specs.Inputs.{read_up_to}
-use Rattle.doll_base.specs.declared.input.InputFault.{InputFault}
 use Rattle.doll_base.specs.declared.input.InputFault.TheVariants.{TooLong}
 use Rattle.doll.specs.Replies.{reply_of, readings_of, plain_path, too_long, IsReply}
 use Rattle.doll.proofs.Readings.{appended_none}

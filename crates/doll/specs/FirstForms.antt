@@ -1,9 +1,9 @@
 -- The bundles that are read so far: those with one route, of a record, and one view, its template (this project's own).
-use Rattle.std.specs.Prelude.{ℕ, Bool, true, false, ◌&&◌, not, nat_eq, List, [], ◌∷◌, Option, None, Some, option_and_then, is_some, is_none, codes, if◌then◌else◌}
+use Rattle.std.specs.Prelude.{ℕ, Bool, ◌&&◌, nat_eq, List, [], ◌∷◌, Option, None, Some, option_and_then, codes, if◌then◌else◌}
 use Rattle.std.specs.List.{ends_with}
 use Rattle.std.specs.Str.{bytes_eq}
-use Rattle.serde_json.specs.Data.{Data, string, array, object, Items, no_items, item, Members, no_members, member}
-use Rattle.serde_json.specs.Find.{get, as_str, as_array, as_object}
+use Rattle.serde_json.specs.Data.{Data, Items, no_items, item, Members, no_members, member}
+use Rattle.serde_json.specs.Find.{get}
 use Rattle.doll_schema.specs.Json.{has_only, text_at, list_at, object_at}
 use Rattle.doll.specs.Paths.{virtual_path}
 
@@ -14,7 +14,8 @@ pub record Parts : Type 0 where
   pub template : List ℕ
   pub owner : Data
   pub source : Data
-  pub commits : Data
+  -- the commits may be left out
+  pub commits : Option Data
 
 -- the one item of an array
 abbrev pub only_item : Items → Option Data
@@ -69,6 +70,5 @@ parts_of bundle = do
   named ← route_parts route
   views ← object_at (codes "views") bundle
   source ← source_of named.template views
-  commits ← get (codes "commits") bundle
   where_holds (has_only bundle_keys bundle)
-      (record { schema = schema; path = named.path; template = named.template; owner = named.owner; source = source; commits = commits })
+      (record { schema = schema; path = named.path; template = named.template; owner = named.owner; source = source; commits = get (codes "commits") bundle })

@@ -1,9 +1,9 @@
 -- The history that the commits of a bundle make, one after another (this project's own).
-use Rattle.std.specs.Prelude.{ℕ, ◌+◌, List, [], ◌∷◌, ◌++◌, slice_index, Option, None, Some, option_and_then, is_none, Bool, Result, Ok, Err, codes, if◌then◌else◌}
+use Rattle.std.specs.Prelude.{ℕ, ◌+◌, List, [], ◌∷◌, ◌++◌, length, drop, Option, None, Some, option_and_then, is_none, Bool, Result, Ok, Err, codes, if◌then◌else◌}
 use Rattle.std.specs.Option.{option_map, option_map_or, ok_or}
 use Rattle.serde_json.specs.Data.{Data, Items, no_items, item}
 use Rattle.serde_json.specs.Find.{get, as_array}
-use Rattle.doll_schema.specs.Steps.{◌>>=◌}
+use Rattle.doll_schema.specs.Steps.{◌>>=◌, ◌>>◌}
 use Rattle.doll_schema.specs.Json.{has_only, whole_at}
 use Rattle.doll_schema.specs.declared.model.Schema.{Schema}
 use Rattle.doll_journal.specs.declared.change.Change.{Change}
@@ -72,11 +72,12 @@ why_kind why.TooManyChanges = kind.TooManyChanges
 abbrev pub commit_refusal : ℕ → Kind → Refusal
 commit_refusal number what = Refused part.Commits number what
 
--- why a commit isn't recorded, as the bundle's; a keeper's fault and want of memory are no refusals of the bundle
+-- why a commit isn't recorded, as the bundle's
 abbrev pub fault_refusal : ℕ → RecordFault → Refusal
 fault_refusal number (fault.HistoryFull count) = commit_refusal number kind.HistoryFull
 fault_refusal number (fault.MomentsEnded last) = commit_refusal number kind.MomentsEnded
 fault_refusal number (fault.Refused index what) = commit_refusal number (why_kind what)
+-- these two never come: no definition answers a keeper's fault or want of memory
 fault_refusal number fault.Kept = NotBuilt
 fault_refusal number fault.Memory = NotBuilt
 
@@ -88,31 +89,47 @@ or_refusal number (Err what) = Err (fault_refusal number what)
 abbrev pub author : ℕ
 author = 0
 
--- a history with the commit that is asked for with a number at a time, if it is accepted
-abbrev pub recorded : Schema → List Commit → ℕ → ℕ → List Change → Result (List Commit) Refusal
-recorded schema history number time changes =
-    or_refusal number (committed schema history (asked history author number changes time)) >>= λ done. Ok (history ++ asked history author number changes time ∷ [])
+-- the commit that is asked for at a time; its number is how many were made before it
+abbrev pub next_asked : List Commit → ℕ → List Change → Commit
+next_asked history time changes = asked history author (length history) changes time
+
+-- a history with that commit, if it is accepted
+abbrev pub recorded : Schema → List Commit → ℕ → List Change → Result (List Commit) Refusal
+recorded schema history time changes = do
+  or_refusal (length history) (committed schema history (next_asked history time changes))
+  Ok (history ++ next_asked history time changes ∷ [])
 
 -- ---- the commits of a bundle
 
--- a commit with a number recorded at the time that it says, else at a reading of the clock
-abbrev pub asked_recorded : Schema → List Commit → ℕ → ℕ → Asked → Result (List Commit) Refusal
-asked_recorded schema history number reading form = recorded schema history number (option_map_or (λ time. time) form.time reading) form.changes
+-- a history with a commit of the form at the time that it says, else at a reading of the clock
+unfoldable pub commit_result : Schema → List Commit → ℕ → Data → Result (List Commit) Refusal
+commit_result schema history reading commit = do
+  form ← ok_or (asked_in commit) (commit_refusal (length history) kind.BadForm)
+  recorded schema history (option_map_or (λ time. time) form.time reading) form.changes
 
--- the same if it is of the form
-unfoldable pub commit_result : Schema → List Commit → ℕ → ℕ → Data → Result (List Commit) Refusal
-commit_result schema history number reading commit = ok_or (asked_in commit) (commit_refusal number kind.BadForm) >>= asked_recorded schema history number reading
+-- the next reading of the clock, 0 where there is none
+abbrev pub next_reading : List ℕ → ℕ
+next_reading [] = 0
+next_reading (reading ∷ readings) = reading
 
--- the history with the commits made in order, the first of these with a number and behind so many readings
-abbrev pub commits_from : Schema → List Commit → ℕ → List ℕ → ℕ → Items → Result (List Commit) Refusal
-commits_from schema history number readings taken no_items = Ok history
-commits_from schema history number readings taken (item commit commits) =
-    commit_result schema history number (slice_index readings taken) commit >>= λ next. commits_from schema next (number + 1) readings (taken + taken_by commit) commits
+-- the readings behind a commit, which takes the next one where it says no time
+abbrev pub readings_behind : Data → List ℕ → List ℕ
+readings_behind commit readings = drop (taken_by commit) readings
+
+-- the history with the commits made in order
+abbrev pub commits_from : Schema → List Commit → List ℕ → Items → Result (List Commit) Refusal
+commits_from schema history readings no_items = Ok history
+commits_from schema history readings (item commit commits) = do
+  next ← commit_result schema history (next_reading readings) commit
+  commits_from schema next (readings_behind commit readings) commits
 
 -- the records that a bundle's commits leave
 abbrev pub all_recorded : Schema → List ℕ → Items → Result TableMap Refusal
-all_recorded schema readings commits = commits_from schema [] 0 readings 0 commits >>= λ history. Ok (table_of schema history)
+all_recorded schema readings commits = do
+  history ← commits_from schema [] readings commits
+  Ok (table_of schema history)
 
--- the array of a bundle's commits
-abbrev pub commits_in : Data → Result Items Refusal
-commits_in commits = ok_or (as_array commits) (commit_refusal 0 kind.BadForm)
+-- the array of a bundle's commits, an empty one where they are left out
+abbrev pub commits_in : Option Data → Result Items Refusal
+commits_in None = Ok no_items
+commits_in (Some commits) = ok_or (as_array commits) (commit_refusal 0 kind.BadForm)

@@ -1,15 +1,19 @@
 -- The paths of routes, views and requests (this project's own).
-use Rattle.std.specs.Prelude.{ℕ, zero, suc, ◌+◌, ◌-◌, ◌*◌, Bool, true, false, not, ◌&&◌, ◌||◌, ◌==◌, nat_le, nat_lt, nat_eq, List, [], ◌∷◌, ◌++◌, length, take, drop, slice_index, fold, codes, Option, Some, None, if◌then◌else◌}
-use Rattle.std.specs.List.{list_all, slice_split, starts_with, ends_with, prefix_len, take_while}
+use Rattle.std.specs.Prelude.{ℕ, ◌+◌, ◌-◌, ◌*◌, Bool, false, not, ◌&&◌, ◌||◌, ◌==◌, nat_le, nat_lt, nat_eq, List, [], ◌∷◌, length, take, drop, slice_index, fold, codes, Option, Some, None, if◌then◌else◌}
+use Rattle.std.specs.List.{list_all, slice_split, starts_with, ends_with, take_while}
 use Rattle.std.specs.Char.{is_ascii_digit}
 use Rattle.doll_expr.specs.Names.{is_word}
 
 abbrev pub is_slash : ℕ → Bool
 is_slash byte = byte == 47
 
--- each part between slashes is a word
+-- the segments between slashes
+abbrev pub segments : List ℕ → List (List ℕ)
+segments path = slice_split is_slash path
+
+-- each segment is a word
 abbrev pub are_words : List ℕ → Bool
-are_words path = list_all is_word (slice_split is_slash path)
+are_words path = list_all is_word (segments path)
 
 -- one or more segments, each a slash and a word
 abbrev pub is_literal_path : List ℕ → Bool
@@ -25,20 +29,15 @@ record_path path =
 abbrev pub is_view_name : List ℕ → Bool
 is_view_name name = is_word name || (slice_index name 0 == 95 && is_word (drop 1 name))
 
--- how many bytes stand before the first slash, or all where there is none
-abbrev pub front_len : List ℕ → ℕ
-front_len = prefix_len (λ byte. not (is_slash byte))
+-- words, and a view's name behind them
+abbrev pub are_view_segments : List (List ℕ) → Bool
+are_view_segments [] = false
+are_view_segments (name ∷ []) = is_view_name name
+are_view_segments (word ∷ more) = is_word word && are_view_segments more
 
--- a virtual path of at most so many segments: the last segment alone, or a word, a slash and such a path of one segment less
-unfoldable pub is_view_path : ℕ → List ℕ → Bool
-is_view_path zero path = false
-is_view_path (suc more) path =
-    let end = front_len path in
-    if end == length path then is_view_name path else is_word (take end path) && is_view_path more (drop 1 (drop end path))
-
--- A virtual path has at most eight segments.
-abbrev pub is_virtual_path : List ℕ → Bool
-is_virtual_path path = is_view_path 8 path
+-- a virtual path: at most eight segments, words but for the last, which is a view's name
+unfoldable pub is_virtual_path : List ℕ → Bool
+is_virtual_path path = are_view_segments (segments path) && nat_le (length (segments path)) 8
 
 -- the virtual path of a view's file: its name without the ending
 abbrev pub virtual_path : List ℕ → Option (List ℕ)

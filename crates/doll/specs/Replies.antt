@@ -1,9 +1,9 @@
 -- What the program answers to its words and its input (this project's own).
-use Rattle.std.specs.Prelude.{ℕ, ◌≡◌, ◌≢◌, ◌⊎◌, Bool, nat_lt, List, [], ◌∷◌, ◌++◌, length, bytes_eq, Option, None, Some, Result, Ok, Err, codes, is_some, IfSome, if◌then◌else◌}
+use Rattle.std.specs.Prelude.{ℕ, ◌≡◌, ◌≢◌, ◌≤◌, ◌⊎◌, nat_lt, List, [], ◌∷◌, ◌++◌, length, bytes_eq, Option, None, Some, Result, Ok, Err, codes, is_some, IfSome, if◌then◌else◌}
 use Rattle.std.specs.Option.{option_map_or}
 use Rattle.doll_schema.specs.declared.value.Val.TheVariants as val
 use Rattle.doll_table.specs.Tables.{row_of}
-use Rattle.doll_plain.specs.Direct.{Env, direct, plain_scene}
+use Rattle.doll_plain.specs.Direct.{direct, plain_scene}
 use Rattle.doll.specs.declared.refusal.Refusal.{Refusal}
 use Rattle.doll.specs.declared.refusal.Refusal.TheVariants as refusal
 use Rattle.doll.specs.Refusals.{refusal_line}
@@ -45,7 +45,9 @@ page_reply site path = option_map_or (λ id. record { status = 0; text = page_of
 -- a bundle that is refused, or of a form that isn't read yet
 abbrev pub refusal_reply : Refusal → Reply
 refusal_reply (refusal.Refused part number what) = record { status = 3; text = line (refusal_line part number what) }
-refusal_reply other = not_built
+refusal_reply refusal.NotBuilt = not_built
+-- this never comes: no definition answers want of memory
+refusal_reply refusal.Memory = not_built
 
 abbrev pub site_reply : Result Site Refusal → List ℕ → Reply
 site_reply (Ok site) path = page_reply site path
@@ -77,6 +79,14 @@ pub record IsReply (words : List (List ℕ)) (left before after : Option (List �
   pub taken : Appended before after readings
   pub count : length readings ≡ readings_of words input
   pub is : reply ≡ reply_of words input readings
+
+-- The clock gave no more readings than the answer to an input takes: the input that the source had left, where that is told.
+pub record ReadsFor (words : List (List ℕ)) (left before after : Option (List ℕ)) : Type 0 where
+  pub input : List ℕ
+  pub readings : List ℕ
+  pub told : IfSome left (λ bytes. bytes ≡ input)
+  pub taken : Appended before after readings
+  pub count : length readings ≤ readings_of words input
 
 -- Statuses other than those of a failed read, a failed write and want of memory answer the words and the input.
 abbrev pub IsAnswer : ℕ → Type 0

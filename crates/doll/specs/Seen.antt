@@ -1,4 +1,5 @@
 -- What the code's parts of a bundle stand for.
+use Rattle.std.specs.Option.{option_map}
 use Rattle.serde_json.specs.View.{view}
 use Rattle.doll.specs.declared.first_form.Parts as lent
 use Rattle.doll.specs.declared.first_form.RouteParts as lent_route
@@ -14,5 +15,5 @@ seen_parts parts = record {
   template = parts.template.now;
   owner = view parts.owner.now;
   source = view parts.source.now;
-  commits = view parts.commits.now;
+  commits = option_map (λ commits. view commits.now) parts.commits;
 }

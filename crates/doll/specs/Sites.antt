@@ -1,12 +1,11 @@
 -- The site that a bundle describes, or why it is refused (this project's own).
-use Rattle.std.specs.Prelude.{ℕ, zero, ◌+◌, ◌-◌, ◌^◌, Bool, true, false, not, ◌&&◌, nat_lt, nat_le, List, [], ◌∷◌, length, bytes_eq, position, option_and_then, Option, None, Some, Result, Ok, Err, codes, if◌then◌else◌}
-use Rattle.std.specs.Option.{option_map_or, ok_or}
+use Rattle.std.specs.Prelude.{ℕ, ◌&&◌, nat_lt, nat_le, List, length, bytes_eq, position, Option, None, Result, Ok, Err, if◌then◌else◌}
+use Rattle.std.specs.Option.{ok_or}
 use Rattle.std.specs.Str.{is_utf8}
-use Rattle.serde_json.specs.Data.{Data, string, array, Items, no_items, item}
-use Rattle.serde_json.specs.Find.{get, as_str, as_array}
+use Rattle.serde_json.specs.Data.{Data, Items}
+use Rattle.serde_json.specs.Find.{as_str}
 use Rattle.serde_json.specs.Read.{read}
-use Rattle.doll_schema.specs.Steps.{◌>>=◌}
-use Rattle.doll_schema.specs.Json.{has_only, whole_at}
+use Rattle.doll_schema.specs.Steps.{◌>>=◌, ◌>>◌, check}
 use Rattle.doll_schema.specs.Schemas.{schema_of}
 use Rattle.doll_schema.specs.declared.fault.Place.{Place}
 use Rattle.doll_schema.specs.declared.fault.SchemaFault.{SchemaFault}
@@ -15,7 +14,6 @@ use Rattle.doll_schema.specs.declared.model.Model.{Model}
 use Rattle.doll_schema.specs.declared.model.Schema.{Schema}
 use Rattle.doll_erb.specs.declared.node.Node.{Node}
 use Rattle.doll_erb.specs.Trees.{tree_of}
-use Rattle.doll.specs.declared.refusal.BundlePart.{BundlePart}
 use Rattle.doll.specs.declared.refusal.BundlePart.TheVariants as part
 use Rattle.doll.specs.declared.refusal.Kind.{Kind}
 use Rattle.doll.specs.declared.refusal.Kind.TheVariants as kind
@@ -44,6 +42,7 @@ schema_refusal (fault.UnknownKind at) = refused_at at kind.UnknownKind
 schema_refusal (fault.DuplicateName at) = refused_at at kind.DuplicateName
 schema_refusal (fault.UnknownModel at) = refused_at at kind.UnknownModel
 schema_refusal (fault.BadInverse at) = refused_at at kind.BadInverse
+-- this never comes: no definition answers want of memory
 schema_refusal fault.Memory = NotBuilt
 
 abbrev pub or_schema_refusal : Result Schema SchemaFault → Result Schema Refusal
@@ -57,26 +56,19 @@ route_refusal what = Refused part.Routes 0 what
 abbrev pub longest_virtual_path : ℕ
 longest_virtual_path = 191
 
--- the path of the route, if its template is a virtual path and its model's name is a text, before whether the path is one
-abbrev pub path_if : Bool → List ℕ → Result (List ℕ) Refusal
-path_if form path = if form then ok_or (record_path path) (route_refusal kind.BadPath) else Err (route_refusal kind.BadForm)
-
-abbrev pub route_path : Parts → Result (List ℕ) Refusal
-route_path parts = path_if (is_virtual_path parts.template && nat_le (length parts.template) longest_virtual_path && option_map_or (λ name. true) (as_str parts.owner) false) parts.path
-
--- the number of the model that a route names; numbers have 16 bits
-abbrev pub within_16_bits : ℕ → Option ℕ
-within_16_bits at = if nat_lt at (2 ^ 16) then Some at else None
-
-abbrev pub model_number : Schema → List ℕ → Option ℕ
-model_number schema name = option_and_then within_16_bits (position (λ (m : Model). bytes_eq m.name name) schema.models)
-
-abbrev pub model_named : Schema → List ℕ → Result ℕ Refusal
-model_named schema name = ok_or (model_number schema name) (route_refusal kind.UnknownModel)
-
 -- the name that a route names its model by
 abbrev pub route_name : Parts → Result (List ℕ) Refusal
 route_name parts = ok_or (as_str parts.owner) (route_refusal kind.BadForm)
+
+-- the path of the route before the record's id, once its template is a virtual path
+abbrev pub route_path : Parts → Result (List ℕ) Refusal
+route_path parts = do
+  check (is_virtual_path parts.template && nat_le (length parts.template) longest_virtual_path) (route_refusal kind.BadForm)
+  ok_or (record_path parts.path) (route_refusal kind.BadPath)
+
+-- the number of the model that a route names
+abbrev pub model_named : Schema → List ℕ → Result ℕ Refusal
+model_named schema name = ok_or (position (λ (m : Model). bytes_eq m.name name) schema.models) (route_refusal kind.UnknownModel)
 
 -- the source of the view, of at most 262,144 bytes
 abbrev pub short_source : List ℕ → Result (List ℕ) Refusal
@@ -99,26 +91,15 @@ abbrev pub tree_in : List ℕ → Result (List Node) Refusal
 tree_in text = or_bad_template (tree_of text) >>= lone_tree
 
 -- the pages of a bundle's parts: schema, route, view and template in turn, or the first refusal
-abbrev pub after_tree : Schema → List ℕ → List ℕ → ℕ → List Node → Result Pages Refusal
-after_tree schema path owner model tree = Ok (record { path = path; model = model; owner = owner; tree = tree; schema = schema })
-
-abbrev pub after_source : Schema → List ℕ → List ℕ → ℕ → List ℕ → Result Pages Refusal
-after_source schema path owner model source = tree_in source >>= after_tree schema path owner model
-
-abbrev pub after_model : Parts → Schema → List ℕ → List ℕ → ℕ → Result Pages Refusal
-after_model parts schema path owner model = source_in parts.source >>= after_source schema path owner model
-
-abbrev pub after_name : Parts → Schema → List ℕ → List ℕ → Result Pages Refusal
-after_name parts schema path owner = model_named schema owner >>= after_model parts schema path owner
-
-abbrev pub after_path : Parts → Schema → List ℕ → Result Pages Refusal
-after_path parts schema path = route_name parts >>= after_name parts schema path
-
-abbrev pub after_schema : Parts → Schema → Result Pages Refusal
-after_schema parts schema = route_path parts >>= after_path parts schema
-
 unfoldable pub pages_in : Parts → Result Pages Refusal
-pages_in parts = or_schema_refusal (schema_of parts.schema) >>= after_schema parts
+pages_in parts = do
+  schema ← or_schema_refusal (schema_of parts.schema)
+  owner ← route_name parts
+  path ← route_path parts
+  model ← model_named schema owner
+  source ← source_in parts.source
+  tree ← tree_in source
+  Ok (record { path = path; model = model; owner = owner; tree = tree; schema = schema })
 
 -- the site of pages, with the records that commits leave
 abbrev pub with_table : Pages → TableMap → Result Site Refusal
@@ -127,20 +108,23 @@ with_table pages table = Ok (record { pages = pages; table = table })
 abbrev pub with_commits : Pages → List ℕ → Items → Result Site Refusal
 with_commits pages readings commits = all_recorded pages.schema readings commits >>= with_table pages
 
-unfoldable pub site_of_pages : List ℕ → Data → Pages → Result Site Refusal
+unfoldable pub site_of_pages : List ℕ → Option Data → Pages → Result Site Refusal
 site_of_pages readings commits pages = commits_in commits >>= with_commits pages readings
 
 -- the site of a bundle's parts, where the clock gives these readings
 abbrev pub site_in : Parts → List ℕ → Result Site Refusal
 site_in parts readings = pages_in parts >>= site_of_pages readings parts.commits
 
--- how many readings the commits need
-abbrev pub untimed_in : Data → ℕ
-untimed_in (array commits) = untimed commits
-untimed_in other = 0
+-- how many readings the commits need, where they are an array
+abbrev pub untimed_of : Result Items Refusal → ℕ
+untimed_of (Ok commits) = untimed commits
+untimed_of (Err why) = 0
+
+abbrev pub untimed_in : Option Data → ℕ
+untimed_in commits = untimed_of (commits_in commits)
 
 -- how many readings are taken for the parts: none where the pages are refused
-abbrev pub needed_by : Data → Result Pages Refusal → ℕ
+abbrev pub needed_by : Option Data → Result Pages Refusal → ℕ
 needed_by commits (Ok pages) = untimed_in commits
 needed_by commits (Err why) = 0
 

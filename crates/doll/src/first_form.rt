@@ -18,7 +18,8 @@ pub struct Parts<'a> {
     /// The name of the record's model.
     pub owner: &'a Value,
     pub source: &'a Value,
-    pub commits: &'a Value,
+    /// The commits, which may be left out.
+    pub commits: Option<&'a Value>,
 }
 
 /// The one item of an array.
@@ -100,7 +101,6 @@ pub fn parts_of(bundle: &Value) -> Option<Parts<'_>>
     let schema = bundle.get("schema")?;
     let route = route_parts(only_item(list_at(bundle, "routes")?)?)?;
     let source = source_of(route.template, object_at(bundle, "views")?)?;
-    let commits = bundle.get("commits")?;
     if !has_only(bundle, &["schema", "routes", "views", "commits"]) {
         return None;
     }
@@ -110,6 +110,6 @@ pub fn parts_of(bundle: &Value) -> Option<Parts<'_>>
         template: route.template,
         owner: route.owner,
         source,
-        commits,
+        commits: bundle.get("commits"),
     })
 }

@@ -1,11 +1,12 @@
 //! The history that the commits of a bundle make, and the records that it leaves.
 
-ghost use Rattle.std.specs.Prelude.{◌≡◌, ◌+◌, ◌<◌, [], length, slice_index, IfOk, IfSome};
+ghost use Rattle.std.specs.Prelude.{◌≡◌, [], length, IfOk, IfSome};
 ghost use Rattle.serde_json.specs.View.{items_view, view};
 ghost use Rattle.doll_base.specs.Streams.{Appended};
 ghost use Rattle.doll_expr.specs.Gives.{Gives};
+ghost use Rattle.doll_keep.specs.Calls.{IsFaultless};
 ghost use Rattle.doll_table.specs.Fits.{Fits};
-ghost use Rattle.doll.specs.Pasts.{is_untimed, time_in, asked_in, untimed, why_kind, commit_refusal, recorded, commit_result, commits_from, all_recorded, taken_by};
+ghost use Rattle.doll.specs.Pasts.{is_untimed, time_in, asked_in, untimed, why_kind, commit_refusal, recorded, commit_result, next_reading, readings_behind, commits_from, all_recorded};
 ghost use Rattle.doll_journal.specs.Storable.{AreStorable};
 ghost use Rattle.doll.specs.Timed.{ReadsClock, GivesHistory};
 
@@ -15,7 +16,7 @@ use doll_commit::Why;
 use doll_expr::{Copied, Memory};
 use doll_journal::{Changes, changes_of};
 use doll_keep::MemKeeper;
-use doll_records::{RecordFault, Records, SharedTable};
+use doll_records::{OpenFault, RecordFault, Records, SharedTable};
 use doll_schema::Schema;
 use doll_schema::json::{has_only, whole_at};
 use serde_json::Value;
@@ -107,7 +108,7 @@ pub fn readings<C: Clock>(
 ) -> Result<Vec<u64>, Memory>
     ensures taken { IfOk result (λ readings. Appended (C.readings clock.old) (C.readings clock.new) readings.items) }
     ensures count { IfOk result (λ readings. length readings.items ≡ untimed (items_view commits.now)) }
-    ensures reads { ReadsClock (C.readings clock.old) (C.readings clock.new) }
+    ensures reads { ReadsClock (untimed (items_view commits.now)) (C.readings clock.old) (C.readings clock.new) }
 {
     let mut readings = Vec::new(alloc);
     let mut rest = commits;
@@ -121,85 +122,94 @@ pub fn readings<C: Clock>(
 }
 
 /// Records a commit after the others.
+#[tactic(auto, using(crate::proofs::Keeping::commit_faultless))]
 fn recorded(
     alloc: Global,
     records: &mut Records<MemKeeper>,
-    number: u64,
     time: u64,
     changes: Changes,
 ) -> Result<(), Refusal>
-    requires { AreStorable changes }
-    ensures exact { GivesHistory Refusal.Memory (recorded records.old.schema records.old.history number time changes) records.new.history result }
+    requires storable { AreStorable changes }
+    requires faultless { IsFaultless records.old.keeper.plan }
+    ensures exact { GivesHistory Refusal.Memory (recorded records.old.schema records.old.history time changes) records.new.history result }
     ensures schema { records.new.schema ≡ records.old.schema }
+    ensures faultless { IsFaultless records.new.keeper.plan }
 {
+    let number = records.history().len() as u64;
     match records.commit(alloc, AUTHOR, number, changes, time) {
         Ok(_) => Ok(()),
         Err(RecordFault::HistoryFull { .. }) => Err(commit_refusal(number, Kind::HistoryFull)),
         Err(RecordFault::MomentsEnded { .. }) => Err(commit_refusal(number, Kind::MomentsEnded)),
         Err(RecordFault::Refused { why, .. }) => Err(commit_refusal(number, why_kind(why))),
-        // This keeper was made to fail at no call.
-        Err(RecordFault::Kept) => Err(Refusal::Memory),
+        // The keeper was made to fail at no call.
+        Err(RecordFault::Kept) => unreachable!(),
         Err(RecordFault::Memory) => Err(Refusal::Memory),
     }
 }
 
-/// Records the commit with a number, if it is of the form; at the clock's reading, where it says no time.
+/// Records a commit, if it is of the form; at the clock's reading, where it says no time.
 #[tactic(auto, unfolding(crate::specs::Pasts::commit_result))]
 fn record_next(
     alloc: Global,
     records: &mut Records<MemKeeper>,
-    number: u64,
     reading: u64,
     commit: &Value,
 ) -> Result<(), Refusal>
-    ensures exact { GivesHistory Refusal.Memory (commit_result records.old.schema records.old.history number reading (view commit.now)) records.new.history result }
+    requires { IsFaultless records.old.keeper.plan }
+    ensures exact { GivesHistory Refusal.Memory (commit_result records.old.schema records.old.history reading (view commit.now)) records.new.history result }
     ensures schema { records.new.schema ≡ records.old.schema }
+    ensures faultless { IsFaultless records.new.keeper.plan }
 {
     match asked_in(alloc, commit)? {
         Some(asked) => {
             let time = asked.time.unwrap_or(reading);
-            recorded(alloc, records, number, time, asked.changes)
+            recorded(alloc, records, time, asked.changes)
         }
-        None => Err(commit_refusal(number, Kind::BadForm)),
+        None => Err(commit_refusal(records.history().len() as u64, Kind::BadForm)),
     }
 }
 
-/// How many readings a commit takes: one where it says no time.
-fn taken_by(commit: &Value) -> usize
-    ensures { result ≡ taken_by (view commit.now) }
+/// The next reading, 0 where there is none.
+fn next_reading(readings: &[u64]) -> u64
+    ensures { result ≡ next_reading readings.now }
 {
-    if is_untimed(commit) { 1 } else { 0 }
+    match readings {
+        [reading, ..] => *reading,
+        [] => 0,
+    }
 }
 
-/// The reading with a number, 0 where there is none.
-fn reading_at(readings: &[u64], at: usize) -> u64
-    ensures { result ≡ slice_index readings.now at }
+/// The readings behind a commit, which takes the next one where it says no time.
+fn readings_behind<'a>(commit: &Value, readings: &'a [u64]) -> &'a [u64]
+    ensures { result.now ≡ readings_behind (view commit.now) readings.now }
 {
-    match readings.get(at) {
-        Some(reading) => *reading,
-        None => 0,
+    if !is_untimed(commit) {
+        return readings;
+    }
+    match readings {
+        [_reading, more @ ..] => more,
+        [] => readings,
     }
 }
 
 /// Records these commits, one after another.
-#[tactic(auto, using(crate::proofs::Made::step_goes_on, crate::proofs::Made::step_stops, crate::proofs::Made::taken_one))]
+#[tactic(auto, using(crate::proofs::Made::step_goes_on, crate::proofs::Made::step_stops))]
 fn record_all(
     alloc: Global,
     records: &mut Records<MemKeeper>,
     readings: &[u64],
     commits: &[Value],
 ) -> Result<(), Refusal>
-    ensures exact { GivesHistory Refusal.Memory (commits_from records.old.schema records.old.history 0 readings.now 0 (items_view commits.now)) records.new.history result }
+    requires { IsFaultless records.old.keeper.plan }
+    ensures exact { GivesHistory Refusal.Memory (commits_from records.old.schema records.old.history readings.now (items_view commits.now)) records.new.history result }
     ensures schema { records.new.schema ≡ records.old.schema }
 {
     let mut rest = commits;
-    let mut number = 0;
-    let mut taken = 0;
+    let mut left = readings;
     while let [commit, more @ ..] = rest {
-        record_next(alloc, records, number, reading_at(readings, taken), commit)?;
-        taken += taken_by(commit);
+        record_next(alloc, records, next_reading(left), commit)?;
+        left = readings_behind(commit, left);
         rest = more;
-        number += 1;
     }
     Ok(())
 }
@@ -208,11 +218,16 @@ fn record_all(
 fn no_records(alloc: Global, schema: &Schema) -> Result<Records<MemKeeper>, Memory>
     ensures history { IfOk result (λ records. records.history ≡ []) }
     ensures schema { IfOk result (λ records. records.schema ≡ schema.now) }
+    ensures faultless { IfOk result (λ records. IsFaultless records.keeper.plan) }
 {
     let keeper = MemKeeper::new(alloc, Vec::new(alloc), None);
     match Records::open(alloc, keeper, schema.copy(alloc)?) {
         Ok(records) => Ok(records),
-        Err(_) => Err(Memory),
+        Err(fault) => match fault {
+            OpenFault::Memory => Err(Memory),
+            // It fails at no call, and keeps no item that could have a fault.
+            _ => unreachable!(),
+        },
     }
 }
 

@@ -1,17 +1,18 @@
 //! The site that a bundle describes.
 
-ghost use Rattle.std.specs.Prelude.{◌≡◌, ◌≢◌, ◌<◌, ◌≤◌, length, option_map, bytes_eq, position, Ok, Err, IfOk, MatchResult};
+ghost use Rattle.std.specs.Prelude.{◌≡◌, ◌≢◌, ◌<◌, ◌≤◌, length, option_map, bytes_eq, position, Ok, Err, IfOk, IfSome, MatchResult};
 ghost use Rattle.std.specs.Option.{ok_or};
 ghost use Rattle.serde_json.specs.View.{items_view, view};
 ghost use Rattle.doll_expr.specs.Gives.{Gives};
 ghost use Rattle.doll_table.specs.Fits.{Fits};
+ghost use Rattle.doll_schema.specs.Limits.{AreFewModels};
 ghost use Rattle.doll_schema.specs.Schemas.{schema_of};
 ghost use Rattle.doll.specs.Seen.{seen_parts};
 ghost use Rattle.doll.specs.FirstForms.{parts_of};
 ghost use Rattle.doll.specs.declared.refusal.Refusal.TheVariants as refusals;
 ghost use Rattle.doll_schema.specs.declared.model.Model.{Model};
 ghost use Rattle.doll.specs.Pasts.{commits_in, untimed};
-ghost use Rattle.doll.specs.Sites.{json_of, schema_refusal, or_schema_refusal, route_refusal, route_path, route_name, model_number, model_named, source_in, tree_in, pages_in, with_commits, site_of_pages, untimed_in, site_in, readings_in, parts_of_json, readings_by, site_by, site_of, readings_for};
+ghost use Rattle.doll.specs.Sites.{json_of, schema_refusal, or_schema_refusal, route_refusal, route_path, route_name, model_named, source_in, tree_in, pages_in, with_commits, site_of_pages, untimed_in, site_in, readings_in, parts_of_json, readings_by, site_by, site_of, readings_for};
 ghost use Rattle.doll.specs.Timed.{GivesTimed};
 
 use crate::first_form::{Parts, parts_of};
@@ -75,7 +76,8 @@ fn schema_refusal(fault: SchemaFault) -> Refusal
 }
 
 fn schema_in(alloc: Global, schema: &Value) -> Result<Schema, Refusal>
-    ensures { Gives Refusal.Memory (or_schema_refusal (schema_of (view schema.now))) result }
+    ensures exact { Gives Refusal.Memory (or_schema_refusal (schema_of (view schema.now))) result }
+    ensures few { IfOk result (λ schema. AreFewModels schema.models) }
 {
     match Schema::read(alloc, schema) {
         Ok(schema) => Ok(schema),
@@ -93,7 +95,17 @@ fn route_refusal(kind: Kind) -> Refusal
     }
 }
 
-/// The path before the id, where the route is of the form.
+/// The name that a route names its model by.
+fn route_name<'a>(parts: &Parts<'a>) -> Result<&'a str, Refusal>
+    ensures { MatchResult result (λ name. route_name (seen_parts parts.now) ≡ Ok name.now) (λ why. route_name (seen_parts parts.now) ≡ Err why) }
+{
+    match parts.owner.as_str() {
+        Some(name) => Ok(name),
+        None => Err(route_refusal(Kind::BadForm)),
+    }
+}
+
+/// The path before the id, once the route's template is a virtual path.
 fn route_path<'a>(parts: &Parts<'a>) -> Result<&'a [u8], Refusal>
     ensures { MatchResult result (λ path. route_path (seen_parts parts.now) ≡ Ok path.now) (λ why. route_path (seen_parts parts.now) ≡ Err why) }
 {
@@ -101,9 +113,6 @@ fn route_path<'a>(parts: &Parts<'a>) -> Result<&'a [u8], Refusal>
         return Err(route_refusal(Kind::BadForm));
     }
     if parts.template.len() > LONGEST_VIRTUAL_PATH {
-        return Err(route_refusal(Kind::BadForm));
-    }
-    if parts.owner.as_str().is_none() {
         return Err(route_refusal(Kind::BadForm));
     }
     match record_path(parts.path.as_bytes()) {
@@ -114,7 +123,8 @@ fn route_path<'a>(parts: &Parts<'a>) -> Result<&'a [u8], Refusal>
 
 /// Where the model stands that has a name.
 fn model_at(schema: &Schema, name: &[u8]) -> Option<usize>
-    ensures { result ≡ position (λ (m : Model). bytes_eq m.name name.now) schema.now.models }
+    ensures at { result ≡ position (λ (m : Model). bytes_eq m.name name.now) schema.now.models }
+    ensures within { IfSome result (λ at. at < length schema.now.models) }
 {
     schema
         .models
@@ -123,33 +133,14 @@ fn model_at(schema: &Schema, name: &[u8]) -> Option<usize>
         .position(|model| model.name.as_bytes() == name)
 }
 
-/// The number of the model that has a name. Numbers have 16 bits.
-fn model_number(schema: &Schema, name: &[u8]) -> Option<u16>
-    ensures { result ≡ model_number schema.now name.now }
-{
-    match model_at(schema, name) {
-        Some(at) if at < 65_536 => Some(at as u16),
-        _ => None,
-    }
-}
-
 /// The number of the model that the route names.
 fn model_named(schema: &Schema, name: &str) -> Result<u16, Refusal>
+    requires { AreFewModels schema.now.models }
     ensures { result ≡ model_named schema.now name.now }
 {
-    match model_number(schema, name.as_bytes()) {
-        Some(model) => Ok(model),
+    match model_at(schema, name.as_bytes()) {
+        Some(at) => Ok(at as u16),
         None => Err(route_refusal(Kind::UnknownModel)),
-    }
-}
-
-/// The name that a route names its model by.
-fn route_name<'a>(parts: &Parts<'a>) -> Result<&'a str, Refusal>
-    ensures { MatchResult result (λ name. route_name (seen_parts parts.now) ≡ Ok name.now) (λ why. route_name (seen_parts parts.now) ≡ Err why) }
-{
-    match parts.owner.as_str() {
-        Some(name) => Ok(name),
-        None => Err(route_refusal(Kind::BadForm)),
     }
 }
 
@@ -200,8 +191,8 @@ fn pages_in(alloc: Global, parts: &Parts<'_>) -> Result<Pages, Refusal>
     ensures { Gives Refusal.Memory (pages_in (seen_parts parts.now)) result }
 {
     let schema = schema_in(alloc, parts.schema)?;
-    let path = route_path(parts)?;
     let owner = route_name(parts)?;
+    let path = route_path(parts)?;
     let model = model_named(&schema, owner)?;
     let tree = tree_in(alloc, source_in(parts.source)?)?;
     let path = Name::from_bytes(alloc, path)?;
@@ -215,10 +206,13 @@ fn pages_in(alloc: Global, parts: &Parts<'_>) -> Result<Pages, Refusal>
     })
 }
 
-/// The array of a bundle's commits.
-fn commits_in(commits: &Value) -> Result<&[Value], Refusal>
-    ensures { MatchResult result (λ items. commits_in (view commits.now) ≡ Ok (items_view items.now)) (λ why. commits_in (view commits.now) ≡ Err why) }
+/// The array of a bundle's commits, an empty one where they are left out.
+fn commits_in(commits: Option<&Value>) -> Result<&[Value], Refusal>
+    ensures { MatchResult result (λ items. commits_in (option_map (λ d. view d.now) commits.entry) ≡ Ok (items_view items.now)) (λ why. commits_in (option_map (λ d. view d.now) commits.entry) ≡ Err why) }
 {
+    let Some(commits) = commits else {
+        return Ok(&[]);
+    };
     match commits.as_array() {
         Some(commits) => Ok(commits.as_slice()),
         None => Err(commit_refusal(0, Kind::BadForm)),
@@ -259,10 +253,10 @@ fn with_readings<C: Clock>(
 fn site_of_pages<C: Clock>(
     alloc: Global,
     pages: Pages,
-    commits: &Value,
+    commits: Option<&Value>,
     clock: &mut C,
 ) -> Result<Site, Refusal>
-    ensures exact { GivesTimed Refusal.Memory (untimed_in (view commits.now)) (λ readings. site_of_pages readings (view commits.now) pages) (C.readings clock.old) (C.readings clock.new) result }
+    ensures exact { GivesTimed Refusal.Memory (untimed_in (option_map (λ d. view d.now) commits.entry)) (λ readings. site_of_pages readings (option_map (λ d. view d.now) commits.entry) pages) (C.readings clock.old) (C.readings clock.new) result }
     ensures fits { IfOk result (λ site. Fits site.pages.schema site.table) }
 {
     match commits_in(commits) {

@@ -1,10 +1,10 @@
 //! The program over its words, a folder, a source, a sink and a clock.
 
-ghost use Rattle.std.specs.Prelude.{◌≡◌, map, string_bytes, None, IfOk, IsErrOf};
+ghost use Rattle.std.specs.Prelude.{◌≡◌, ◌+◌, map, string_bytes, None, IfOk, IsErrOf};
 ghost use Rattle.doll_base.specs.Faults.{Rose, KeepsCount};
-ghost use Rattle.doll_base.specs.Streams.{Appended, AppendedPart};
+ghost use Rattle.doll_base.specs.Streams.{Appended, AppendedPart, TookAtMost};
 ghost use Rattle.doll.specs.declared.tool.Unanswered.TheVariants as unanswered;
-ghost use Rattle.doll.specs.Replies.{IsReply, Asking, Answers, AnswersPart, IsAnswer, IsSilent, plain_path};
+ghost use Rattle.doll.specs.Replies.{IsReply, ReadsFor, Asking, Answers, AnswersPart, IsAnswer, IsSilent, plain_path};
 
 use crate::reply::{LONGEST_INPUT, Reply, plain_path, plain_reply, too_long, usage};
 use doll_base::{Clock, Folder, InputFault, Sink, Source, read_all, write_whole};
@@ -49,7 +49,10 @@ fn reply_to<S: Source, C: Clock>(
     ensures status { IfOk result (λ reply. IsAnswer reply.status) }
     ensures failed { IsErrOf result Unanswered.Failed → Rose (S.faults source.old) (S.faults source.new) }
     ensures unread { plain_path (map string_bytes words.now) ≡ None → (S.left source.new ≡ S.left source.old) × (S.faults source.new ≡ S.faults source.old) }
+    ensures taken { TookAtMost (LONGEST_INPUT + 1) (S.left source.old) (S.left source.new) }
     ensures clock { IsErrOf result Unanswered.Failed → C.readings clock.new ≡ C.readings clock.old }
+    ensures unasked { plain_path (map string_bytes words.now) ≡ None → C.readings clock.new ≡ C.readings clock.old }
+    ensures reads { ReadsFor (map string_bytes words.now) (S.left source.old) (C.readings clock.old) (C.readings clock.new) }
     ensures count { KeepsCount (S.faults source.old) (S.faults source.new) }
 {
     let path = match plain_path(words) {
@@ -81,10 +84,16 @@ pub fn run_tool<F: Folder, S: Source, K: Sink, C: Clock>(
     ensures write_failed { result ≡ WRITE_FAILED → Rose (K.faults sink.old) (K.faults sink.new) × AnswersPart (record { words = map string_bytes words.now; left = S.left source.old; before = C.readings clock.old; after = C.readings clock.new }) (K.held sink.old) (K.held sink.new) }
     // Words that are none of the forms are told before anything is read.
     ensures unread { plain_path (map string_bytes words.now) ≡ None → (S.left source.new ≡ S.left source.old) × (S.faults source.new ≡ S.faults source.old) }
+    // Whatever the answer, no more is read than tells that the input is too long.
+    ensures taken { TookAtMost (LONGEST_INPUT + 1) (S.left source.old) (S.left source.new) }
     // Without an answer nothing is written.
     ensures silent { IsSilent result → K.held sink.new ≡ K.held sink.old }
     // Where the input wasn't read the clock isn't either.
     ensures clock { result ≡ READ_FAILED → C.readings clock.new ≡ C.readings clock.old }
+    // Nor is it for words that are none of the forms.
+    ensures unasked { plain_path (map string_bytes words.now) ≡ None → C.readings clock.new ≡ C.readings clock.old }
+    // Whatever the answer, it is read at most once for each commit of the bundle that says no time.
+    ensures reads { ReadsFor (map string_bytes words.now) (S.left source.old) (C.readings clock.old) (C.readings clock.new) }
     // The folder isn't asked yet.
     ensures folder { F.faults folder.new ≡ F.faults folder.old }
 {

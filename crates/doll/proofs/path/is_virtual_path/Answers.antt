@@ -1,8 +1,10 @@
-use Rattle.std.proofs.Common.{◌≡◌, ◌≢◌, ◌<◌, true, false, sym, ◌∙◌, ap, length, take, rules, arith}
+use Rattle.std.proofs.Common.{◌≡◌, true, false, sym, ◌∙◌, take, rules, arith}
 use Rattle.doll_expr.specs.Names.{is_word}
-use Rattle.doll.specs.Paths.{front_len}
-use Rattle.doll.proofs.Views.{view_path-none, view_path-last, view_path-bad, view_path-more}
+use Rattle.doll.proofs.Views.{front_len, view_path-whole, view_path-none, view_path-last, view_path-bad, view_path-more}
 use Rattle.doll.proofs.path.is_virtual_path.Goals as goal
+
+pub loop-more-init : goal.loop-more-init
+loop-more-init c = view_path-whole c.args.path.now
 
 pub returns : goal.returns
 returns c = sym (view_path-none c.loop-more.more c.loop-more.rest.now (omega arith)) ∙ c.loop-more.invariant

@@ -1,9 +1,6 @@
-use Rattle.std.proofs.Common.{sym, ap, subst, ◌∙◌, map, string_bytes, ◌≤◌, List, ℕ, length, arith}
-use Rattle.std.specs.Prelude.{IfSome, Ok}
-use Rattle.doll_base.specs.Inputs.{read_up_to}
-use Rattle.doll.specs.Replies.{IsReply}
+use Rattle.std.proofs.Common.{sym, map, string_bytes, ◌≤◌, length, arith}
 use Rattle.doll.proofs.Longs.{too_long-reply}
-use Rattle.doll.proofs.Answered.{usage_reply, read_reply}
+use Rattle.doll.proofs.Answered.{usage_reply, read_reply, no_reading, read_readings, took_none}
 use Rattle.doll.proofs.tool.reply_to.Goals as goal
 
 pub returns-in-None-clause-reply : goal.returns-in-None-clause-reply
@@ -22,3 +19,36 @@ pub returns-in_ok-too_long-in-Err-TooLong-clause-reply : goal.returns-in_ok-too_
 returns-in_ok-too_long-in-Err-TooLong-clause-reply g c =
     rw c.in_ok-too_long-in-Err-TooLong.ensures.value
     (too_long-reply (map string_bytes c.args.words.now) c.in-Some.path.now (g.S.Source.left c.args.source.now) (g.C.Clock.readings c.args.clock.now) (sym c.in-Some.ensures) (rw c.in-Err-TooLong.field-0-is at c.in-Err-TooLong.ensures.told))
+
+pub returns-in-None-clause-taken : goal.returns-in-None-clause-taken
+returns-in-None-clause-taken g c = took_none 16777217 (g.S.Source.left c.args.source.now)
+
+pub returns-in-None-clause-reads : goal.returns-in-None-clause-reads
+returns-in-None-clause-reads g c = no_reading (map string_bytes c.args.words.now) (g.S.Source.left c.args.source.now) (g.C.Clock.readings c.args.clock.now)
+
+pub returns-in_ok-plain_reply-in-Ok-clause-reads : goal.returns-in_ok-plain_reply-in-Ok-clause-reads
+returns-in_ok-plain_reply-in-Ok-clause-reads g c =
+    let short : length c.as_slice.result.now ≤ 16777216 = omega (arith, c.as_slice.ensures.len, c.in-Ok.ensures.within) in
+    read_readings (map string_bytes c.args.words.now) c.in-Some.path.now c.as_slice.result.now (g.S.Source.left c.args.source.now) (g.C.Clock.readings c.args.clock.now) (g.C.Clock.readings c.plain_reply.new.clock) c.plain_reply.result
+    (sym c.in-Some.ensures) (rw c.as_slice.ensures.value c.in-Ok.ensures.told) short c.plain_reply.ensures.value
+
+pub returns-in_err-plain_reply-in-Ok-clause-reads : goal.returns-in_err-plain_reply-in-Ok-clause-reads
+returns-in_err-plain_reply-in-Ok-clause-reads g c =
+    let short : length c.as_slice.result.now ≤ 16777216 = omega (arith, c.as_slice.ensures.len, c.in-Ok.ensures.within) in
+    read_readings (map string_bytes c.args.words.now) c.in-Some.path.now c.as_slice.result.now (g.S.Source.left c.args.source.now) (g.C.Clock.readings c.args.clock.now) (g.C.Clock.readings c.plain_reply.new.clock) c.plain_reply.result
+    (sym c.in-Some.ensures) (rw c.as_slice.ensures.value c.in-Ok.ensures.told) short c.plain_reply.ensures.value
+
+pub returns-in_err-usage-in-None-clause-reads : goal.returns-in_err-usage-in-None-clause-reads
+returns-in_err-usage-in-None-clause-reads g c = no_reading (map string_bytes c.args.words.now) (g.S.Source.left c.args.source.now) (g.C.Clock.readings c.args.clock.now)
+
+pub returns-in_err-too_long-in-Err-TooLong-clause-reads : goal.returns-in_err-too_long-in-Err-TooLong-clause-reads
+returns-in_err-too_long-in-Err-TooLong-clause-reads g c = no_reading (map string_bytes c.args.words.now) (g.S.Source.left c.args.source.now) (g.C.Clock.readings c.args.clock.now)
+
+pub returns-in_ok-too_long-in-Err-TooLong-clause-reads : goal.returns-in_ok-too_long-in-Err-TooLong-clause-reads
+returns-in_ok-too_long-in-Err-TooLong-clause-reads g c = no_reading (map string_bytes c.args.words.now) (g.S.Source.left c.args.source.now) (g.C.Clock.readings c.args.clock.now)
+
+pub returns-in-Err-Failed-clause-reads : goal.returns-in-Err-Failed-clause-reads
+returns-in-Err-Failed-clause-reads g c = no_reading (map string_bytes c.args.words.now) (g.S.Source.left c.args.source.now) (g.C.Clock.readings c.args.clock.now)
+
+pub returns-in-Err-Memory-clause-reads : goal.returns-in-Err-Memory-clause-reads
+returns-in-Err-Memory-clause-reads g c = no_reading (map string_bytes c.args.words.now) (g.S.Source.left c.args.source.now) (g.C.Clock.readings c.args.clock.now)
