@@ -541,11 +541,12 @@ fn answers_to_long_texts(rt: HostRuntime) -> Result<(), Fail> {
 fn words_and_faults(rt: HostRuntime) -> Result<(), Fail> {
     // The words, the input, the failing reads and writes, the status and what is written. Wrong words are told before
     // anything is read: a failing source doesn't matter then.
+    let plain: &[&str] = &["plain"];
     let page: &[&str] = &["plain", "/products/1"];
     let first: &[u64] = &[0];
     let none: &[u64] = &[];
     for (words, input, reads, writes, status, text) in [
-        (&page[..1], "", first, none, 2, USAGE),
+        (plain, "", first, none, 2, USAGE),
         (page, "", first, none, 7, ""),
         (page, "", none, first, 8, ""),
         (page, "", none, none, 3, "bundle json 0: BadForm\n"),
