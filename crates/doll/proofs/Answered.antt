@@ -5,7 +5,7 @@ use Rattle.std.proofs.lemmas.Bool.Decides.{nat_tests}
 use Rattle.doll_base.specs.Streams.{Appended, TookAtMost}
 use Rattle.doll_base.specs.Inputs.{read_up_to}
 use Rattle.doll_base.specs.declared.input.InputFault.TheVariants.{TooLong}
-use Rattle.doll_expr.specs.declared.memory.Memory.{Memory}
+use Rattle.doll_text.specs.declared.memory.Memory.{Memory}
 use Rattle.doll.specs.declared.reply.Reply.{Reply}
 use Rattle.doll.specs.Sites.{readings_for}
 use Rattle.doll.specs.Timed.{AnswersTimed}

@@ -2,7 +2,7 @@
 use Rattle.std.proofs.Common.{◌≡◌, ℕ, List, [], length, Option, None, Some, Result, Ok, Err, refl, sym, ap, ◌∙◌, arith}
 use Rattle.serde_json.specs.Data.{Data, Items}
 use Rattle.doll_base.specs.Streams.{Appended}
-use Rattle.doll_expr.specs.Gives.{Gives}
+use Rattle.doll_text.specs.Gives.{Gives}
 use Rattle.doll.specs.Timed.{GivesTimed, ReadsClock}
 use Rattle.doll.specs.declared.refusal.Refusal.{Refusal}
 use Rattle.doll.specs.declared.refusal.Refusal.TheVariants.{Memory, Refused}

@@ -6,7 +6,7 @@ use Rattle.std.proofs.lemmas.Bool.Decides.{nat_tests}
 use Rattle.std.proofs.lemmas.List.{drop-drop}
 use Rattle.std.proofs.lemmas.List.Sums.{prefix_len-le-length}
 use Rattle.std.proofs.lemmas.List.Splits.{length-slice_split, slice_split_first, slice_split-cons_no}
-use Rattle.doll_expr.specs.Names.{is_word}
+use Rattle.doll_text.specs.Names.{is_word}
 use Rattle.doll.specs.Paths.{is_slash, segments, is_view_name, are_view_segments, is_virtual_path}
 
 -- how many bytes stand before the first slash, or all where there is none

@@ -3,7 +3,7 @@ use Rattle.std.specs.Prelude.{ℕ, ◌+◌, List, [], ◌∷◌, ◌++◌, lengt
 use Rattle.std.specs.Option.{option_map, option_map_or, ok_or}
 use Rattle.serde_json.specs.Data.{Data, Items, no_items, item}
 use Rattle.serde_json.specs.Find.{get, as_array}
-use Rattle.doll_schema.specs.Steps.{◌>>=◌, ◌>>◌}
+use Rattle.doll_text.specs.Steps.{◌>>=◌, ◌>>◌}
 use Rattle.doll_schema.specs.Json.{has_only, whole_at}
 use Rattle.doll_schema.specs.declared.model.Schema.{Schema}
 use Rattle.doll_journal.specs.declared.change.Change.{Change}

@@ -2,7 +2,7 @@
 use Rattle.std.specs.Prelude.{ℕ, ◌+◌, ◌-◌, ◌*◌, Bool, false, not, ◌&&◌, ◌||◌, ◌==◌, nat_le, nat_lt, nat_eq, List, [], ◌∷◌, length, take, drop, slice_index, fold, codes, Option, Some, None, if◌then◌else◌}
 use Rattle.std.specs.List.{list_all, slice_split, starts_with, ends_with, take_while}
 use Rattle.std.specs.Char.{is_ascii_digit}
-use Rattle.doll_expr.specs.Names.{is_word}
+use Rattle.doll_text.specs.Names.{is_word}
 
 abbrev pub is_slash : ℕ → Bool
 is_slash byte = byte == 47

@@ -5,7 +5,7 @@ use Rattle.std.specs.Str.{is_utf8}
 use Rattle.serde_json.specs.Data.{Data, Items}
 use Rattle.serde_json.specs.Find.{as_str}
 use Rattle.serde_json.specs.Read.{read}
-use Rattle.doll_schema.specs.Steps.{◌>>=◌, ◌>>◌, check}
+use Rattle.doll_text.specs.Steps.{◌>>=◌, ◌>>◌, check}
 use Rattle.doll_schema.specs.Schemas.{schema_of}
 use Rattle.doll_schema.specs.declared.fault.Place.{Place}
 use Rattle.doll_schema.specs.declared.fault.SchemaFault.{SchemaFault}

@@ -59,6 +59,3 @@ fn words_of(rt: &HostRuntime) -> io::Result<Vec<String>> {
         }
     }
 }
-
-#[cfg(test)]
-mod tests;

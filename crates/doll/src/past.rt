@@ -3,7 +3,7 @@
 ghost use Rattle.std.specs.Prelude.{◌≡◌, [], length, IfOk, IfSome};
 ghost use Rattle.serde_json.specs.View.{items_view, view};
 ghost use Rattle.doll_base.specs.Streams.{Appended};
-ghost use Rattle.doll_expr.specs.Gives.{Gives};
+ghost use Rattle.doll_text.specs.Gives.{Gives};
 ghost use Rattle.doll_keep.specs.Calls.{IsFaultless};
 ghost use Rattle.doll_table.specs.Fits.{Fits};
 ghost use Rattle.doll.specs.Pasts.{is_untimed, time_in, asked_in, untimed, why_kind, commit_refusal, recorded, commit_result, next_reading, readings_behind, commits_from, all_recorded};

@@ -4,7 +4,7 @@ ghost use Rattle.std.specs.Prelude.{◌≡◌, ◌==◌, ◌≤◌, not, length,
 ghost use Rattle.std.specs.List.{prefix_len};
 ghost use Rattle.doll.specs.Paths.{is_slash, are_words, is_literal_path, record_path, is_view_name, is_virtual_path, id_of, requested_id};
 
-use doll_expr::words::is_word;
+use doll_text::words::is_word;
 
 /// The longest path and file name, in bytes.
 const LONGEST_PATH: usize = 200;

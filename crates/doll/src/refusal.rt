@@ -7,7 +7,7 @@ ghost use Rattle.doll.specs.declared.refusal.Refusal.TheVariants as refusals;
 use std::alloc::AllocError;
 
 /// A part of a bundle.
-#[derive(Clone, Copy, Debug, PartialEq, Eq)]
+#[derive(Clone, Copy, PartialEq, Eq)]
 pub enum BundlePart {
     Json,
     Schema,
@@ -17,7 +17,7 @@ pub enum BundlePart {
 }
 
 /// What is wrong with a part of a bundle. The names are those that the program prints.
-#[derive(Clone, Copy, Debug, PartialEq, Eq)]
+#[derive(Clone, Copy, PartialEq, Eq)]
 pub enum Kind {
     BadForm,
     TooMany,
@@ -85,7 +85,7 @@ impl Kind {
 }
 
 /// The answer to a bundle that isn't served.
-#[derive(Clone, Copy, Debug, PartialEq, Eq)]
+#[derive(Clone, Copy, PartialEq, Eq)]
 pub enum Refusal {
     /// The bundle is of a form that isn't read yet.
     NotBuilt,

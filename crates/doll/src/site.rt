@@ -3,7 +3,7 @@
 ghost use Rattle.std.specs.Prelude.{◌≡◌, ◌≢◌, ◌<◌, ◌≤◌, length, option_map, bytes_eq, position, Ok, Err, IfOk, IfSome, MatchResult};
 ghost use Rattle.std.specs.Option.{ok_or};
 ghost use Rattle.serde_json.specs.View.{items_view, view};
-ghost use Rattle.doll_expr.specs.Gives.{Gives};
+ghost use Rattle.doll_text.specs.Gives.{Gives};
 ghost use Rattle.doll_table.specs.Fits.{Fits};
 ghost use Rattle.doll_schema.specs.Limits.{AreFewModels};
 ghost use Rattle.doll_schema.specs.Schemas.{schema_of};

@@ -7,7 +7,7 @@ ghost use Rattle.doll_base.specs.declared.folder.FolderFault.TheVariants.{Failed
 use std::alloc::{AllocError, Global};
 
 /// Why a file was not read.
-#[derive(Clone, Copy, Debug, PartialEq, Eq)]
+#[derive(Clone, Copy, PartialEq, Eq)]
 pub enum FolderFault {
     /// No such file is there.
     Missing,

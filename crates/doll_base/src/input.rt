@@ -7,7 +7,7 @@ use crate::source::ReadFault;
 use std::alloc::AllocError;
 
 /// Why an input was not read.
-#[derive(Clone, Copy, Debug, PartialEq, Eq)]
+#[derive(Clone, Copy, PartialEq, Eq)]
 pub enum InputFault {
     /// The source failed.
     Failed,

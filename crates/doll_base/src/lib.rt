@@ -12,7 +12,7 @@ pub mod source;
 pub mod system;
 
 pub use clock::Clock;
-pub use doll_expr::{Bytes, Ids, Items, Memory, Name, Text};
+pub use doll_text::{Bytes, Ids, Items, Memory, Name, Text};
 pub use faults::{FaultCount, FaultPlan};
 pub use folder::{Folder, FolderFault};
 pub use in_memory::{ListClock, MemSink, MemSource};
@@ -20,6 +20,3 @@ pub use input::InputFault;
 pub use sink::{Sink, WriteFault, write_whole};
 pub use source::{ReadFault, Source, read_all};
 pub use system::{DirFolder, StdSink, StdSource, SysClock};
-
-#[cfg(test)]
-mod tests;

@@ -5,7 +5,7 @@ ghost use Rattle.doll_base.specs.Faults.{Rose, KeepsCount};
 ghost use Rattle.doll_base.specs.Streams.{Appended, AppendedPart};
 
 /// A sink failed to write.
-#[derive(Clone, Copy, Debug, PartialEq, Eq)]
+#[derive(Clone, Copy, PartialEq, Eq)]
 pub struct WriteFault;
 
 /// Takes bytes, a piece at a call.

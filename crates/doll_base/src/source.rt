@@ -14,7 +14,7 @@ use std::alloc::Global;
 const PIECE: usize = 8192;
 
 /// A source failed to read.
-#[derive(Clone, Copy, Debug, PartialEq, Eq)]
+#[derive(Clone, Copy, PartialEq, Eq)]
 pub struct ReadFault;
 
 /// Gives bytes, a piece at a call.

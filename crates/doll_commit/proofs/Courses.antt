@@ -6,7 +6,7 @@ use Rattle.std.specs.Option.{option_map_or}
 use Rattle.std.specs.FinMap as finite
 use Rattle.std.proofs.lemmas.Bool.{cases_lt}
 use Rattle.std.proofs.lemmas.Option.{slice_get_past}
-use Rattle.doll_schema.specs.Steps.{◌>>=◌}
+use Rattle.doll_text.specs.Steps.{◌>>=◌}
 use Rattle.doll_schema.specs.declared.value.Row.{Row}
 use Rattle.doll_schema.specs.declared.model.Model.{Model}
 use Rattle.doll_schema.specs.declared.model.Schema.{Schema}

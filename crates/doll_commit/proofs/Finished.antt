@@ -1,6 +1,6 @@
 -- What a course comes to doesn't depend on the order of the records that it touched.
 use Rattle.std.proofs.Common.{◌≡◌, ℕ, false, cond, List, [], length, Result, Ok, Err, ltb, ◌∙◌, ap}
-use Rattle.doll_schema.specs.Steps.{◌>>=◌}
+use Rattle.doll_text.specs.Steps.{◌>>=◌}
 use Rattle.doll_schema.specs.declared.model.Schema.{Schema}
 use Rattle.doll_journal.specs.declared.change.Commit.{Commit}
 use Rattle.doll_table.specs.Tables.{TableMap}

@@ -5,7 +5,7 @@ use Rattle.std.specs.List.{flat_map}
 use Rattle.std.specs.Option.{option_map_or, ok_or, option_to_list}
 use Rattle.std.proofs.lemmas.Bool.{true≢false, cases_lt, ne_eqb, or_left, or_right}
 use Rattle.std.proofs.lemmas.List.{append-nil}
-use Rattle.doll_schema.specs.Steps.{◌>>=◌}
+use Rattle.doll_text.specs.Steps.{◌>>=◌}
 use Rattle.doll_schema.specs.declared.value.Row.{Row}
 use Rattle.doll_schema.specs.declared.model.Model.{Model}
 use Rattle.doll_schema.specs.declared.model.Schema.{Schema}

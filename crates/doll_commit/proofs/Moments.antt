@@ -2,7 +2,7 @@
 use Rattle.std.proofs.Common.{◌≡◌, ℕ, Bool, true, false, cond, List, [], Option, Some, None, IsSome, Result, Ok, Err, refl, sym, ◌∙◌, subst, ltb, length, inl, inr}
 use Rattle.std.specs.Prelude.{slice_get, Contains}
 use Rattle.std.specs.Option.{option_map_or}
-use Rattle.doll_schema.specs.Steps.{◌>>=◌}
+use Rattle.doll_text.specs.Steps.{◌>>=◌}
 use Rattle.doll_schema.specs.declared.value.Row.{Row}
 use Rattle.doll_schema.specs.declared.model.Model.{Model}
 use Rattle.doll_schema.specs.declared.model.Schema.{Schema}

@@ -2,7 +2,7 @@
 use Rattle.std.proofs.Common.{◌≡◌, ℕ, ◌+◌, ◌≤◌, ◌||◌, List, [], ◌∷◌, ◌++◌, length, Result, Ok, refl, sym, ◌∙◌, ap}
 use Rattle.std.specs.Option.{option_to_list}
 use Rattle.std.proofs.lemmas.Bool.{le-ltb}
-use Rattle.doll_schema.specs.Steps.{◌>>=◌}
+use Rattle.doll_text.specs.Steps.{◌>>=◌}
 use Rattle.doll_schema.specs.declared.model.Schema.{Schema}
 use Rattle.doll_journal.specs.declared.change.Change.{Change}
 use Rattle.doll_journal.specs.declared.change.Commit.{Commit}

@@ -1,7 +1,7 @@
 //! A commit made on a table.
 
 ghost use Rattle.std.specs.Prelude.{◌≡◌, ◌≤◌, length, MatchResult, IfOk, OnOk};
-ghost use Rattle.doll_expr.specs.Gives.{Gives};
+ghost use Rattle.doll_text.specs.Gives.{Gives};
 ghost use Rattle.doll_table.specs.Fits.{Fits};
 ghost use Rattle.doll_commit.specs.Changes.{made};
 ghost use Rattle.doll_commit.specs.Commits.{start, or_refused, all_made, commit_of};
@@ -13,7 +13,7 @@ use crate::course::Course;
 use crate::fault::{ChangeFault, CommitFault, Why};
 use crate::touched::finish;
 use crate::walk::Refs;
-use doll_expr::Ids;
+use doll_text::Ids;
 use doll_journal::{Change, Commit};
 use doll_schema::Schema;
 use doll_table::Table;

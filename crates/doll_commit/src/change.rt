@@ -13,7 +13,7 @@ use crate::given::given_fault;
 use crate::removal::{is_restricted, remove_all, removed_with, short};
 use crate::rows::{blank_row, lacks, row_after};
 use crate::walk::Ref;
-use doll_expr::{Memory, Name};
+use doll_text::{Memory, Name};
 use doll_journal::Change;
 use doll_schema::{Model, Row, Schema, Value};
 use doll_table::Table;

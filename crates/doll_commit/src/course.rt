@@ -7,7 +7,7 @@ ghost use Rattle.doll_commit.specs.Commits.{touch_parents};
 
 use crate::touched::{add_all_touch_parents, add_touch_parents};
 use crate::walk::{Ref, Refs};
-use doll_expr::{Ids, Memory};
+use doll_text::{Ids, Memory};
 use doll_schema::Schema;
 use doll_table::Table;
 

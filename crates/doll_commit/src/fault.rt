@@ -4,12 +4,12 @@ ghost use Rattle.std.specs.Prelude.{◌≡◌};
 ghost use Rattle.doll_commit.specs.declared.fault.ChangeFault.TheVariants as change;
 ghost use Rattle.doll_commit.specs.declared.fault.CommitFault.TheVariants as fault;
 
-use doll_expr::Memory;
+use doll_text::Memory;
 use std::alloc::AllocError;
 
 /// Why a change is refused, or a whole commit. Of several reasons the first of these is told: an unknown model, a missing record, ids that
 /// have ended, what is wrong with the values given, one after another, nil where none may be, a record that is held.
-#[derive(Clone, Copy, Debug, PartialEq, Eq)]
+#[derive(Clone, Copy, PartialEq, Eq)]
 pub enum Why {
     /// No model has the name.
     UnknownModel,
@@ -33,7 +33,7 @@ pub enum Why {
 }
 
 /// The answer to a change that isn't made.
-#[derive(Clone, Copy, Debug, PartialEq, Eq)]
+#[derive(Clone, Copy, PartialEq, Eq)]
 pub enum ChangeFault {
     Refused(Why),
     /// No memory was found.
@@ -41,7 +41,7 @@ pub enum ChangeFault {
 }
 
 /// The answer to a commit that isn't made.
-#[derive(Clone, Copy, Debug, PartialEq, Eq)]
+#[derive(Clone, Copy, PartialEq, Eq)]
 pub enum CommitFault {
     /// The change with this index, counted from 0, is refused.
     Refused { index: u32, why: Why },

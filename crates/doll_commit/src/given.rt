@@ -12,7 +12,7 @@ ghost use Rattle.doll_commit.specs.Given as spec;
 ghost use Rattle.doll_commit.specs.Given.{key_name};
 
 use crate::fault::Why;
-use doll_expr::Name;
+use doll_text::Name;
 use doll_schema::{Attribute, BelongsTo, Kind, Model, Value};
 use doll_table::Table;
 

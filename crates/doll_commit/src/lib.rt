@@ -13,6 +13,3 @@ mod walk;
 
 pub use apply::Applied;
 pub use fault::{CommitFault, Why};
-
-#[cfg(test)]
-mod tests;

@@ -8,7 +8,7 @@ ghost use Rattle.doll_commit.specs.Records.{has, with_refs, SameRefs};
 ghost use Rattle.doll_commit.specs.Removed as spec;
 
 use crate::walk::{Ref, Refs};
-use doll_expr::Memory;
+use doll_text::Memory;
 use doll_schema::{BelongsTo, HasMany, Schema};
 use doll_table::Table;
 use std::alloc::Global;

@@ -8,7 +8,7 @@ ghost use Rattle.doll_commit.specs.Given.{value_given, key_name, key_of};
 ghost use Rattle.doll_commit.specs.Rows as spec;
 
 use crate::given::{key_given, key_of, value_given};
-use doll_expr::{Copied, Items, Memory, Name};
+use doll_text::{Copied, Items, Memory, Name};
 use doll_schema::{Attribute, BelongsTo, Model, ParentIds, Row, Value, Values};
 use std::alloc::Global;
 

@@ -8,7 +8,7 @@ ghost use Rattle.doll_commit.specs.Commits.{touched_by, row_touches, touch_paren
 
 use crate::apply::Applied;
 use crate::walk::{Ref, Refs};
-use doll_expr::{Copied, Ids, Memory};
+use doll_text::{Copied, Ids, Memory};
 use doll_schema::{BelongsTo, Model, Row, Schema};
 use doll_table::Table;
 use std::alloc::Global;

@@ -4,7 +4,7 @@ ghost use Rattle.std.specs.Prelude.{◌≡◌, ◌<◌, ◌^◌, [], IfOk, OnOk,
 ghost use Rattle.std.specs.List.{IsDistinct};
 ghost use Rattle.doll_commit.specs.Records.{has, is_ref, with_ref, with_refs};
 
-use doll_expr::Memory;
+use doll_text::Memory;
 use std::alloc::Global;
 use std::collections::BTreeSet;
 use std::marker::Model;

@@ -21,7 +21,7 @@ use Rattle.doll_erb.specs.Tags.{role_of, comment_by}
 use Rattle.doll_erb.specs.Trees.{Content, Open, Read, and_then, before, with_nodes, from_arm, from_last, text_nodes, front_text, front_len, is_plain, is_plain_kind, content_of, in_tag, role_in, by_role, behind, at_text_end, at_closing, opened_by, number_in, node_of, place_of, block_of, content_from, whole, tree_by, tree_of}
 use Rattle.doll_erb.specs.Grammar.{Does, IsOpening}
 use Rattle.doll_erb.specs.Faults.{OpenBlock, open_block, Blocks, is_if, after_role, after_pieces, fault_at_end, fault_in, first_fault, Faults}
-use Rattle.doll_expr.specs.Gives.{Gives}
+use Rattle.doll_text.specs.Gives.{Gives}
 use Rattle.doll_erb.proofs.Blocks.{content_front, front_len_yes, front_rest_yes, front_rest_no, rest_ends, no_more, tag_step}
 use Rattle.doll_erb.proofs.GrammarSteps.{block_step}
 

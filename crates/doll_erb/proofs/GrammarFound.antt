@@ -10,7 +10,7 @@ use Rattle.doll_expr.specs.declared.expr.ExprFault.{ExprFault}
 use Rattle.doll_expr.specs.declared.token.Token.{Token}
 use Rattle.doll_expr.specs.declared.token.TokenKind.{TokenKind}
 use Rattle.doll_expr.specs.declared.token.TokenKind.TheVariants as kind
-use Rattle.doll_expr.specs.declared.token.Word.TheVariants as word
+use Rattle.doll_text.specs.declared.words.Word.TheVariants as word
 use Rattle.doll_expr.specs.Reading.{◌>>=◌, first_kind, expr_at, whole_of, is_end}
 use Rattle.doll_expr.specs.Tokens.{tokens_of}
 use Rattle.doll_erb.specs.declared.node.Node.{Node, roll-Node}

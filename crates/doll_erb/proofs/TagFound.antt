@@ -4,11 +4,11 @@ use Rattle.std.proofs.lemmas.Bool.{and_parts}
 use Rattle.doll_expr.specs.declared.expr.Expr.{Expr}
 use Rattle.doll_expr.specs.declared.expr.ExprFault.TheVariants.{Unexpected}
 use Rattle.doll_expr.specs.declared.token.Mark.TheVariants as mark
-use Rattle.doll_expr.specs.declared.token.Word.TheVariants as word
+use Rattle.doll_text.specs.declared.words.Word.TheVariants as word
 use Rattle.doll_expr.specs.declared.token.Token.{Token}
 use Rattle.doll_expr.specs.declared.token.TokenKind.{TokenKind}
 use Rattle.doll_expr.specs.declared.token.TokenKind.TheVariants as kind
-use Rattle.doll_expr.specs.Names.{is_name}
+use Rattle.doll_text.specs.Names.{is_name}
 use Rattle.doll_expr.specs.Tokens.{token, tokens_of, is_last, is_mark, is_word}
 use Rattle.doll_expr.specs.Grammar.{expr, Sentence, mark_at, word_at}
 use Rattle.doll_expr.specs.Reading.{◌>>=◌, first_kind, place, fault_at, is_end, expr_at, whole_of}

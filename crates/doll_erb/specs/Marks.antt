@@ -2,7 +2,7 @@
 use Rattle.std.specs.Prelude.{Bool, List, drop, None, Result, Ok, Err, if◌then◌else◌}
 use Rattle.doll_expr.specs.declared.expr.ExprFault.{ExprFault}
 use Rattle.doll_expr.specs.declared.token.Mark.{Mark}
-use Rattle.doll_expr.specs.declared.token.Word.{Word}
+use Rattle.doll_text.specs.declared.words.Word.{Word}
 use Rattle.doll_expr.specs.declared.token.Token.{Token}
 use Rattle.doll_expr.specs.Tokens.{is_mark, is_word}
 use Rattle.doll_expr.specs.Reading.{first_kind, fault_at}

@@ -1,7 +1,7 @@
 -- The names of partials, as templates write them, and the comments that name one (this project's own).
 use Rattle.std.specs.Prelude.{ℕ, nat_le, Bool, not, ◌&&◌, ◌==◌, List, length, drop, Option, None, Some, if◌then◌else◌, codes}
 use Rattle.std.specs.List.{list_all, slice_split, after_last, take_while, prefix_len, starts_with}
-use Rattle.doll_expr.specs.Names.{is_word}
+use Rattle.doll_text.specs.Names.{is_word}
 use Rattle.doll_expr.specs.Tokens.{is_space}
 
 -- what stands between the parts of a name

@@ -37,10 +37,6 @@ abbrev pub if_read : List ℕ → ℕ → ℕ → ℕ → Expr → List Tag → 
 if_read text left block at test pieces =
     and_then (content_from text (block_of text left) (Open.arms at) 0 block pieces) (λ c. Ok (if_node at test c, c.block, c.rest))
 
--- What a call answered, seen by `view`: what is expected, unless memory ran out.
-abbrev pub GivesBy : {X Y : Type 0} → (X → Y) → Result Y ErbFault → Result X ErbFault → Type 0
-GivesBy view expected result = MatchResult result (λ x. expected ≡ Ok (view x)) (λ e. (e ≡ Memory → ⊥) → expected ≡ Err e)
-
 -- what stands in an open block from a tag on, by what was found at it
 abbrev pub from_found : List ℕ → Inward → Open → ℕ → Found → Read
 from_found text inward innermost block (found.Made made number rest) = before (maybe_node made) (content_from text inward innermost 0 number rest.now)

@@ -2,10 +2,10 @@
 use Rattle.std.specs.Prelude.{ℕ, ◌≤◌, ◌≡◌, Bool, true, false, List, [], ◌∷◌, ◌++◌, length, None, Some, Ok}
 use Rattle.doll_expr.specs.declared.expr.Expr.{Expr}
 use Rattle.doll_expr.specs.declared.token.Mark.TheVariants as mark
-use Rattle.doll_expr.specs.declared.token.Word.TheVariants as word
+use Rattle.doll_text.specs.declared.words.Word.TheVariants as word
 use Rattle.doll_expr.specs.declared.token.Token.{Token}
 use Rattle.doll_expr.specs.declared.token.TokenKind.TheVariants as kind
-use Rattle.doll_expr.specs.Names.{is_name}
+use Rattle.doll_text.specs.Names.{is_name}
 use Rattle.doll_expr.specs.Tokens.{token, tokens_of}
 use Rattle.doll_expr.specs.Grammar.{expr, Sentence, mark_at, word_at}
 use Rattle.doll_erb.specs.declared.node.Node.{Node, roll-Node}

@@ -6,13 +6,14 @@ use Rattle.doll_expr.specs.declared.expr.Expr.{Expr}
 use Rattle.doll_expr.specs.declared.expr.ExprFault.{ExprFault}
 use Rattle.doll_expr.specs.declared.expr.ExprFault.TheVariants.{Unexpected}
 use Rattle.doll_expr.specs.declared.token.Mark.TheVariants as mark
-use Rattle.doll_expr.specs.declared.token.Word.TheVariants as word
+use Rattle.doll_text.specs.declared.words.Word.TheVariants as word
 use Rattle.doll_expr.specs.declared.token.Token.{Token}
 use Rattle.doll_expr.specs.declared.token.TokenKind.{TokenKind}
 use Rattle.doll_expr.specs.declared.token.TokenKind.TheVariants as kind
-use Rattle.doll_expr.specs.Names.{is_name}
+use Rattle.doll_text.specs.Gives.{GivesBy}
+use Rattle.doll_text.specs.Names.{is_name}
 use Rattle.doll_expr.specs.Tokens.{is_mark, is_word, tokens_of}
-use Rattle.doll_expr.specs.Reading.{◌>>=◌, GivesBy, first_kind, place, fault_at, stops_at, too_deep, expr_at, whole_of, is_end}
+use Rattle.doll_expr.specs.Reading.{◌>>=◌, first_kind, place, fault_at, stops_at, too_deep, expr_at, whole_of, is_end}
 use Rattle.doll_erb.specs.declared.node.Node.{Node, roll-Node}
 use Rattle.doll_erb.specs.declared.node.Node.TheOpen.{Node-F}
 use Rattle.doll_erb.specs.declared.node.Local.{Local}
@@ -34,7 +35,7 @@ Front A = Result (A × List Token) ExprFault
 
 -- what a call answered: the part and the tokens after it, unless memory ran out
 abbrev pub ReadsTo : {A : Type 0} → Front A → Result (A × Bor (List Token)) ExprFault → Type 0
-ReadsTo expected result = GivesBy (λ x. (x.0, x.1.now)) expected result
+ReadsTo expected result = GivesBy (λ x. (x.0, x.1.now)) Memory expected result
 
 -- ---- parts of several tags
 

@@ -15,6 +15,3 @@ pub use node::{Arm, Arms, ErbFault, Key, KeyPart, Local, Locals, Node, Tree};
 pub use partial::is_partial;
 pub use piece::{Span, Tag, TagKind, Tags, cut};
 pub use template::parse_template;
-
-#[cfg(test)]
-mod tests;

@@ -2,7 +2,8 @@
 
 ghost use Rattle.std.specs.Prelude.{◌≡◌};
 ghost use Rattle.doll_expr.specs.Reading as reading;
-ghost use Rattle.doll_expr.specs.Reading.{GivesBy, first_kind};
+ghost use Rattle.doll_text.specs.Gives.{GivesExactly};
+ghost use Rattle.doll_expr.specs.Reading.{first_kind};
 ghost use Rattle.doll_erb.specs.Marks as spec;
 ghost use Rattle.doll_erb.specs.Tags as tags;
 ghost use Rattle.doll_erb.specs.Tags.{ReadsTo};
@@ -26,7 +27,7 @@ pub(crate) fn is_end(tokens: &[Token]) -> bool
 
 /// The tokens after this mark, which is expected at the front.
 pub(crate) fn mark_at(mark: Mark, tokens: &[Token]) -> Result<&[Token], ExprFault>
-    ensures { GivesBy (λ rest. rest.now) (spec.mark_at mark tokens.now) result }
+    ensures { GivesExactly (λ rest. rest.now) (spec.mark_at mark tokens.now) result }
 {
     if !is_mark(mark, tokens) {
         return Err(fault_at(None, tokens));
@@ -36,7 +37,7 @@ pub(crate) fn mark_at(mark: Mark, tokens: &[Token]) -> Result<&[Token], ExprFaul
 
 /// The tokens after this word, which is expected at the front.
 pub(crate) fn word_at(word: Word, tokens: &[Token]) -> Result<&[Token], ExprFault>
-    ensures { GivesBy (λ rest. rest.now) (spec.word_at word tokens.now) result }
+    ensures { GivesExactly (λ rest. rest.now) (spec.word_at word tokens.now) result }
 {
     if !is_word(word, tokens) {
         return Err(fault_at(None, tokens));

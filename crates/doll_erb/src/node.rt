@@ -5,7 +5,7 @@ use std::alloc::AllocError;
 
 /// A part of a template. `at` is the byte place of the `<%` of its tag.
 #[cycle(tree)]
-#[derive(Debug, Drop)]
+#[derive(Drop)]
 pub enum Node {
     /// A text, written as it is.
     Text(Text),
@@ -62,7 +62,7 @@ pub enum Node {
 
 /// An arm of an `if`: the place of its tag, its test and what it renders.
 #[cycle(tree)]
-#[derive(Debug, Drop)]
+#[derive(Drop)]
 pub struct Arm {
     pub at: u32,
     pub test: Expr,
@@ -74,7 +74,7 @@ pub type Tree = Items<Node>;
 pub type Arms = Items<Arm>;
 
 /// A variable that a partial is rendered with.
-#[derive(Debug, Drop)]
+#[derive(Drop)]
 pub struct Local {
     pub name: Name,
     pub value: Expr,
@@ -83,7 +83,7 @@ pub struct Local {
 pub type Locals = Items<Local>;
 
 /// A part of a fragment's key.
-#[derive(Debug, Drop)]
+#[derive(Drop)]
 pub enum KeyPart {
     /// Any expression; its value belongs to the key.
     Path(Expr),
@@ -94,7 +94,7 @@ pub enum KeyPart {
 pub type Key = Items<KeyPart>;
 
 /// Why a text is no template. `at` is the byte place of the `<%` of the tag.
-#[derive(Clone, Copy, Debug, PartialEq, Eq)]
+#[derive(Clone, Copy, PartialEq, Eq)]
 pub enum ErbFault {
     /// A tag that no `%>` ends.
     UnclosedTag { at: u32 },

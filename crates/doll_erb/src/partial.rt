@@ -3,11 +3,11 @@
 ghost use Rattle.std.specs.Prelude.{◌≡◌, ◌≤◌, ◌&&◌, length, nat_le};
 ghost use Rattle.std.specs.List.{count_by, list_all, prefix_len};
 ghost use Rattle.std.specs.Option.{option_map};
-ghost use Rattle.doll_expr.specs.Names.{is_word};
+ghost use Rattle.doll_text.specs.Names.{is_word};
 ghost use Rattle.doll_expr.specs.Tokens.{is_space};
 ghost use Rattle.doll_erb.specs.Partials as spec;
 
-use doll_expr::words::is_word;
+use doll_text::words::is_word;
 use doll_expr::{is_space, space_len};
 
 /// What goes before a partial's name in a comment.

@@ -1,7 +1,7 @@
 //! Cutting a template into texts and tags.
 
 ghost use Rattle.std.specs.Prelude.{◌≡◌, ◌<◌, ◌≤◌, ◌+◌, ◌^◌, length, IfOk, IfSome, Ok, slice_index};
-ghost use Rattle.doll_expr.specs.Gives.{Gives};
+ghost use Rattle.doll_text.specs.Gives.{Gives};
 ghost use Rattle.doll_erb.specs.Cuts.{cut_of, Tiles};
 ghost use Rattle.doll_erb.specs.Pieces.{begins_with, place_of, line_end, kind_of, mark_len, trims, tag_piece, text_piece, opened_piece, piece_at, IsInside};
 
@@ -10,14 +10,14 @@ use doll_expr::Items;
 use std::alloc::Global;
 
 /// A part of a text: from the byte at `from` up to, and without, that at `to`.
-#[derive(Clone, Copy, Debug, PartialEq, Eq)]
+#[derive(Clone, Copy, PartialEq, Eq)]
 pub struct Span {
     pub from: u32,
     pub to: u32,
 }
 
 /// What a piece of a template is, by the bytes after its `<%`.
-#[derive(Clone, Copy, Debug, PartialEq, Eq)]
+#[derive(Clone, Copy, PartialEq, Eq)]
 pub enum TagKind {
     /// No tag, but text.
     Text,
@@ -32,7 +32,7 @@ pub enum TagKind {
 }
 
 /// A piece of a template. The spans of a template's pieces follow one another from its first byte to its last.
-#[derive(Clone, Copy, Debug, PartialEq, Eq)]
+#[derive(Clone, Copy, PartialEq, Eq)]
 pub struct Tag {
     pub kind: TagKind,
     /// The whole piece, with the line end that `-%>` drops.

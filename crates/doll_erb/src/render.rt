@@ -2,8 +2,7 @@
 
 ghost use Rattle.std.specs.Prelude.{◌≡◌, length};
 ghost use Rattle.std.specs.Option.{option_map};
-ghost use Rattle.doll_expr.specs.Gives.{Gives};
-ghost use Rattle.doll_expr.specs.Reading.{GivesBy};
+ghost use Rattle.doll_text.specs.Gives.{Gives, GivesExactly};
 ghost use Rattle.doll_erb.specs.Tags as spec;
 ghost use Rattle.doll_erb.specs.Tags.{ReadsTo};
 
@@ -20,7 +19,7 @@ use std::alloc::Global;
 const TURNS: u8 = 64;
 
 /// What a collection's tag says first: the partial's name, where its text stands, and the list.
-#[derive(Debug, Drop)]
+#[derive(Drop)]
 struct Listed {
     name: Name,
     at: u32,
@@ -170,7 +169,7 @@ fn item_at(alloc: Global, tokens: &[Token]) -> Result<(Option<Name>, &[Token]), 
 /// Whether the tag asks for its items to be kept.
 #[tactic(auto, unfolding(crate::specs::Tags::cached_at))]
 fn cached_at(tokens: &[Token]) -> Result<(bool, &[Token]), ExprFault>
-    ensures { ReadsTo (spec.cached_at tokens.now) result }
+    ensures { GivesExactly (λ x. (x.0, x.1.now)) (spec.cached_at tokens.now) result }
 {
     if !is_mark(Mark::Comma, tokens) {
         return Ok((false, tokens));

@@ -4,7 +4,7 @@ use crate::node::{Key, Node};
 use doll_expr::{Expr, Name};
 
 /// What a tag does in its template.
-#[derive(Debug, Drop)]
+#[derive(Drop)]
 pub enum Role {
     /// It says nothing, as most comments.
     Nothing,
@@ -17,7 +17,7 @@ pub enum Role {
 }
 
 /// A block by the tag that opens it.
-#[derive(Debug, Drop)]
+#[derive(Drop)]
 pub enum Opening {
     /// An `if`, by its first test.
     If(Expr),
@@ -28,7 +28,7 @@ pub enum Opening {
 }
 
 /// What ends a part of a block.
-#[derive(Debug, Drop)]
+#[derive(Drop)]
 pub enum Closing {
     /// A further arm begins.
     Elsif(Expr),

@@ -1,7 +1,7 @@
 //! What the content of a tag says.
 
 ghost use Rattle.std.specs.Prelude.{◌≡◌, ◌≤◌, length};
-ghost use Rattle.doll_expr.specs.Gives.{Gives};
+ghost use Rattle.doll_text.specs.Gives.{Gives, GivesExactly};
 ghost use Rattle.doll_erb.specs.Tags as spec;
 
 use crate::key::key_at;
@@ -106,7 +106,7 @@ fn run_of(alloc: Global, tokens: &[Token]) -> Result<Role, ExprFault>
 }
 
 fn finished(role: Role, tokens: &[Token]) -> Result<Role, ExprFault>
-    ensures { Gives ExprFault.Memory (spec.finished role tokens.now) result }
+    ensures { GivesExactly (λ x. x) (spec.finished role tokens.now) result }
 {
     if !is_end(tokens) {
         return Err(fault_at(None, tokens));

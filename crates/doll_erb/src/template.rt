@@ -1,7 +1,7 @@
 //! Reading a template into its tree.
 
 ghost use Rattle.std.specs.Prelude.{◌≡◌, ◌≤◌, ◌<◌, ◌+◌, ◌^◌, ◌++◌, List, length, drop, IfOk, IfSome, OnOk, MatchResult, Ok, Err};
-ghost use Rattle.doll_expr.specs.Gives.{Gives};
+ghost use Rattle.doll_text.specs.Gives.{Gives, GivesBy};
 ghost use Rattle.doll_erb.specs.declared.node.ErbFault.TheVariants.{Memory};
 ghost use Rattle.doll_erb.specs.declared.node.Node.{Node, roll-Node};
 ghost use Rattle.doll_erb.specs.declared.node.Node.TheOpen.{Node-F};
@@ -301,7 +301,7 @@ fn read_block<'a>(
 ) -> Result<Block<'a>, ErbFault>
     requires fits { length text.now ≤ 262144 }
     requires numbers { number + length tags.now + 1 < 2 ^ 32 }
-    ensures value { parts.GivesBy (λ x. (x.node, x.number, x.rest.now)) (parts.block_read text.now left number at opening tags.now) result }
+    ensures value { GivesBy (λ x. (x.node, x.number, x.rest.now)) Memory (parts.block_read text.now left number at opening tags.now) result }
     ensures rest { IfOk result (λ x. IsRest (number + 1) tags.now x.number x.rest.now) }
 {
     if left == 0 {
@@ -350,7 +350,7 @@ fn read_body<'a>(
 ) -> Result<Body<'a>, ErbFault>
     requires fits { length text.now ≤ 262144 }
     requires numbers { number + length tags.now < 2 ^ 32 }
-    ensures value { parts.GivesBy (λ x. (x.tree, x.number, x.rest.now)) (parts.body_read text.now left number at tags.now) result }
+    ensures value { GivesBy (λ x. (x.tree, x.number, x.rest.now)) Memory (parts.body_read text.now left number at tags.now) result }
     ensures rest { IfOk result (λ x. IsRest number tags.now x.number x.rest.now) }
 {
     let part = read_part(alloc, text, left, number, tags)?;
@@ -379,7 +379,7 @@ fn read_if<'a>(
 ) -> Result<Block<'a>, ErbFault>
     requires fits { length text.now ≤ 262144 }
     requires numbers { number + length tags.now < 2 ^ 32 }
-    ensures value { parts.GivesBy (λ x. (x.node, x.number, x.rest.now)) (parts.if_read text.now left number at test tags.now) result }
+    ensures value { GivesBy (λ x. (x.node, x.number, x.rest.now)) Memory (parts.if_read text.now left number at test tags.now) result }
     ensures rest { IfOk result (λ x. IsRest number tags.now x.number x.rest.now) }
 {
     let mut arms = Items::new(alloc);

@@ -11,6 +11,3 @@ pub use evaluation::{eval, look_up};
 pub use member::Member;
 pub use operators::{is_true, nil};
 pub use printing::print;
-
-#[cfg(test)]
-mod tests;

@@ -11,7 +11,7 @@ ghost use Rattle.doll_eval.specs.Members.{key_name};
 use doll_schema::{Attribute, BelongsTo, HasMany, Model};
 
 /// What a name stands for at a record of a model, with its place in the model's list of such parts.
-#[derive(Clone, Copy, Debug, PartialEq, Eq)]
+#[derive(Clone, Copy, PartialEq, Eq)]
 pub enum Member {
     Attribute(usize),
     /// The foreign key of an association to a parent.

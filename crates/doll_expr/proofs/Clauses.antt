@@ -6,7 +6,7 @@ use Rattle.doll_expr.specs.declared.expr.Expr.{Expr}
 use Rattle.doll_expr.specs.declared.expr.ExprFault.{ExprFault}
 use Rattle.doll_expr.specs.declared.expr.ExprFault.TheVariants.{Memory}
 use Rattle.doll_expr.specs.declared.token.Token.{Token}
-use Rattle.doll_expr.specs.Gives.{Gives}
+use Rattle.doll_text.specs.Gives.{Gives}
 use Rattle.doll_expr.specs.Grammar.{expr, Sentence, AreExpr, IsExpr, BeginsExpr, ends_expr}
 use Rattle.doll_expr.specs.Reading.{Read, Reads, expr_at, whole_of, expr_of}
 use Rattle.doll_expr.proofs.Found.{expr_found, whole_found, text_found}

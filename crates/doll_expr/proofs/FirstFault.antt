@@ -8,11 +8,11 @@ use Rattle.doll_expr.specs.declared.expr.ExprFault.{ExprFault}
 use Rattle.doll_expr.specs.declared.expr.ExprFault.TheVariants.{Memory}
 use Rattle.doll_expr.specs.declared.level.Level.TheVariants as level
 use Rattle.doll_expr.specs.declared.token.Mark.TheVariants as mark
-use Rattle.doll_expr.specs.declared.token.Word.TheVariants as word
+use Rattle.doll_text.specs.declared.words.Word.TheVariants as word
 use Rattle.doll_expr.specs.declared.token.Token.{Token}
 use Rattle.doll_expr.specs.declared.token.TokenKind.{TokenKind}
 use Rattle.doll_expr.specs.declared.token.TokenKind.TheVariants as kind
-use Rattle.doll_expr.specs.Gives.{Gives}
+use Rattle.doll_text.specs.Gives.{Gives}
 use Rattle.doll_expr.specs.Tokens.{is_last, token, tokens_of}
 use Rattle.doll_expr.specs.Grammar.{expr, atom, Sentence, is_each, mark_at, word_at, atom_nil, atom_parentheses}
 use Rattle.doll_expr.specs.Reading.{literal, is_open, is_close, is_end, first_kind, place, fault_at, stops_at, close_at, level_at, atom_at, enough_fuel, expr_at, whole_of, expr_of, ◌>>=◌}

@@ -12,7 +12,7 @@ use Rattle.doll_expr.specs.declared.level.Sign.{Sign}
 use Rattle.doll_expr.specs.declared.level.Sign.TheVariants as sign
 use Rattle.doll_expr.specs.declared.token.Mark.{Mark}
 use Rattle.doll_expr.specs.declared.token.Mark.TheVariants as mark
-use Rattle.doll_expr.specs.declared.token.Word.TheVariants as word
+use Rattle.doll_text.specs.declared.words.Word.TheVariants as word
 use Rattle.doll_expr.specs.declared.token.Token.{Token}
 use Rattle.doll_expr.specs.declared.token.TokenKind.{TokenKind}
 use Rattle.doll_expr.specs.declared.token.TokenKind.TheVariants as kind

@@ -7,8 +7,8 @@ use Rattle.doll_expr.specs.declared.expr.Query.TheVariants as query
 use Rattle.doll_expr.specs.declared.expr.Op.TheVariants as op
 use Rattle.doll_expr.specs.declared.token.Mark.{Mark}
 use Rattle.doll_expr.specs.declared.token.Mark.TheVariants as mark
-use Rattle.doll_expr.specs.declared.token.Word.{Word}
-use Rattle.doll_expr.specs.declared.token.Word.TheVariants as word
+use Rattle.doll_text.specs.declared.words.Word.{Word}
+use Rattle.doll_text.specs.declared.words.Word.TheVariants as word
 use Rattle.doll_expr.specs.declared.token.Token.{Token}
 use Rattle.doll_expr.specs.declared.token.TokenKind.{TokenKind}
 use Rattle.doll_expr.specs.declared.token.TokenKind.TheVariants as kind

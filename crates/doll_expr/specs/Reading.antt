@@ -15,12 +15,13 @@ use Rattle.doll_expr.specs.declared.level.Sign.{Sign}
 use Rattle.doll_expr.specs.declared.level.Sign.TheVariants as sign
 use Rattle.doll_expr.specs.declared.token.Mark.{Mark}
 use Rattle.doll_expr.specs.declared.token.Mark.TheVariants as mark
-use Rattle.doll_expr.specs.declared.token.Word.{Word}
-use Rattle.doll_expr.specs.declared.token.Word.TheVariants as word
+use Rattle.doll_text.specs.declared.words.Word.{Word}
+use Rattle.doll_text.specs.declared.words.Word.TheVariants as word
 use Rattle.doll_expr.specs.declared.token.Token.{Token}
 use Rattle.doll_expr.specs.declared.token.TokenKind.{TokenKind}
 use Rattle.doll_expr.specs.declared.token.TokenKind.TheVariants as kind
 use Rattle.doll_expr.specs.Tokens.{is_dot, is_mark, tokens_of}
+use Rattle.doll_text.specs.Gives.{GivesBy}
 use Rattle.doll_expr.specs.Grammar.{is_each}
 
 -- ---- the levels of operators, and the operators of each
@@ -227,10 +228,6 @@ whole_of ts = expr_at ts >>= λ x. if is_end (first_kind x.1) && length x.1 == 1
 unfoldable pub expr_of : List ℕ → Result Expr ExprFault
 expr_of text = whole_of (tokens_of text)
 
--- What a call answered, seen by `view`: what is expected, unless memory ran out.
-abbrev pub GivesBy : {X Y : Type 0} → (X → Y) → Result Y ExprFault → Result X ExprFault → Type 0
-GivesBy view expected result = MatchResult result (λ x. expected ≡ Ok (view x)) (λ fault. (fault ≡ Memory → ⊥) → expected ≡ Err fault)
-
--- The same of a tree and the tokens after it.
+-- What a call answered, seen as a tree and the tokens after it: what is expected, unless memory ran out.
 abbrev pub Reads : Read → Result (Expr × Bor (List Token)) ExprFault → Type 0
-Reads expected result = GivesBy (λ x. (x.0, x.1.now)) expected result
+Reads expected result = GivesBy (λ x. (x.0, x.1.now)) Memory expected result

@@ -9,14 +9,14 @@ use Rattle.doll_expr.specs.declared.expr.Query.{Query}
 use Rattle.doll_expr.specs.declared.expr.Query.TheVariants as query
 use Rattle.doll_expr.specs.declared.token.Mark.{Mark}
 use Rattle.doll_expr.specs.declared.token.Mark.TheVariants as mark
-use Rattle.doll_expr.specs.declared.token.Word.{Word}
+use Rattle.doll_text.specs.declared.words.Word.{Word}
 use Rattle.doll_expr.specs.declared.token.TokenKind.{TokenKind}
 use Rattle.doll_expr.specs.declared.token.TokenKind.TheVariants as kind
 use Rattle.doll_expr.specs.declared.token.Token.{Token}
 use denote.Enum.Bare.{sameb}
 use Rattle.doll_expr.specs.contracts.token.Mark.{the_type as marks_type}
-use Rattle.doll_expr.specs.contracts.token.Word.{the_type as words_type}
-use Rattle.doll_expr.specs.Names.{is_lower, is_word_byte, lookup, word_of, is_name}
+use Rattle.doll_text.specs.contracts.words.Word.{the_type as words_type}
+use Rattle.doll_text.specs.Names.{is_lower, is_word_byte, lookup, word_of, is_name}
 
 -- A token with the count of its bytes, or the fault of the text there.
 abbrev pub Front : Type 0

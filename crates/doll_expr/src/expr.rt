@@ -1,10 +1,9 @@
 //! The tree of an expression.
 
-use crate::text::{Name, Text};
-use sqlite_items::Boxed;
+use doll_text::{Boxed, Name, Text};
 
 /// An expression of a template's tag.
-#[derive(Debug, Drop)]
+#[derive(Drop)]
 pub enum Expr {
     Nil,
     True,
@@ -25,7 +24,7 @@ pub enum Expr {
 }
 
 /// What may be asked of a value: `size`, `empty?`, `any?` and `nil?`.
-#[derive(Clone, Copy, Debug, PartialEq, Eq)]
+#[derive(Clone, Copy, PartialEq, Eq)]
 pub enum Query {
     Size,
     Empty,
@@ -34,7 +33,7 @@ pub enum Query {
 }
 
 /// The operators with two sides, from the loosest to the tightest.
-#[derive(Clone, Copy, Debug, PartialEq, Eq)]
+#[derive(Clone, Copy, PartialEq, Eq)]
 pub enum Op {
     Or,
     And,
@@ -50,7 +49,7 @@ pub enum Op {
 }
 
 /// Why a text is no expression. `at` counts bytes from the text's first.
-#[derive(Clone, Copy, Debug, PartialEq, Eq)]
+#[derive(Clone, Copy, PartialEq, Eq)]
 pub enum ExprFault {
     /// A byte that begins no token, a wrong escape, `#{` in a text in `"`, or a token after which no sentence goes on.
     /// Where the text ends too early with no open parenthesis, `at` is its length.

@@ -4,7 +4,7 @@ ghost use Rattle.std.specs.Prelude.{◌≡◌};
 ghost use Rattle.doll_expr.specs.declared.expr.ExprFault.TheVariants as fault;
 
 use crate::expr::ExprFault;
-use crate::memory::Memory;
+use doll_text::Memory;
 use std::alloc::{AllocError, AllocFailed};
 
 impl From<Memory> for ExprFault {

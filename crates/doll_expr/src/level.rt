@@ -7,7 +7,7 @@ use crate::expr::Op;
 use crate::token::Mark;
 
 /// The operators with two sides, by how tightly they bind, the loosest first. `Unary` is what stands between them.
-#[derive(Clone, Copy, Debug, PartialEq, Eq)]
+#[derive(Clone, Copy, PartialEq, Eq)]
 pub enum Level {
     Or,
     And,
@@ -19,7 +19,7 @@ pub enum Level {
 }
 
 /// What may stand before an operand.
-#[derive(Clone, Copy, Debug, PartialEq, Eq)]
+#[derive(Clone, Copy, PartialEq, Eq)]
 pub enum Sign {
     Not,
     Minus,

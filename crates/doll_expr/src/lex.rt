@@ -3,17 +3,15 @@
 ghost use Rattle.std.specs.Prelude.{◌≡◌, ◌≢◌, ◌⊎◌, ◌+◌, ◌<◌, ◌≤◌, true, false, length, slice_index, take, IfOk, IfSome};
 ghost use Rattle.std.specs.Char.{is_ascii_digit};
 ghost use Rattle.std.specs.List.{prefix_len};
-ghost use Rattle.doll_expr.specs.Gives.{Gives};
-ghost use Rattle.doll_expr.specs.Names.{is_word_byte};
+ghost use Rattle.doll_text.specs.Gives.{Gives};
+ghost use Rattle.doll_text.specs.Names.{is_word_byte};
 ghost use Rattle.doll_expr.specs.Tokens as spec;
 
 use crate::expr::{ExprFault, Query};
 use crate::literal::{byte_at, closing, decimal, quoted};
-use crate::memory::Memory;
-use crate::text::Name;
 use crate::token::{Mark, Token, TokenKind};
-use crate::words::{is_lower, is_name, lookup, word_len, word_of};
-use sqlite_items::Items;
+use doll_text::words::{is_lower, is_name, lookup, word_len, word_of};
+use doll_text::{Items, Memory, Name};
 use std::alloc::Global;
 
 /// How many tokens a text may have beside its end.

@@ -1,12 +1,11 @@
 //! Numbers and texts as they are written.
 
 ghost use Rattle.std.specs.Prelude.{◌≡◌, ◌≢◌, slice_index, false, ◌+◌, ◌<◌, ◌≤◌, ◌^◌, pos, nat_lt, length, Some, None, IfOk, IfSome, if◌then◌else◌};
-ghost use Rattle.doll_expr.specs.Gives.{Gives};
+ghost use Rattle.doll_text.specs.Gives.{Gives};
 ghost use Rattle.doll_expr.specs.Tokens as spec;
 
 use crate::expr::ExprFault;
-use crate::memory::Memory;
-use crate::text::Text;
+use doll_text::{Memory, Text};
 use std::alloc::Global;
 
 /// The number that decimal digits say, if 64 bits with a sign have room for it.

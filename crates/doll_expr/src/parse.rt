@@ -3,7 +3,7 @@
 ghost use Rattle.std.specs.Prelude.{◌≡◌, ◌≤◌, length, Ok, IfOk};
 ghost use Rattle.doll_expr.specs.declared.expr.Expr.{Expr};
 ghost use Rattle.doll_expr.specs.Faults.{Faults};
-ghost use Rattle.doll_expr.specs.Gives.{Gives};
+ghost use Rattle.doll_text.specs.Gives.{Gives};
 ghost use Rattle.doll_expr.specs.Grammar.{IsExpr, OneTree};
 ghost use Rattle.doll_expr.specs.Reading.{expr_of};
 ghost use Rattle.doll_expr.specs.Tokens.{tokens_of};

@@ -3,19 +3,17 @@
 ghost use Rattle.std.specs.Prelude.{◌≡◌, ◌≤◌, ◌==◌, ◌&&◌, true, List, ◌++◌, length, drop, Ok, IfOk};
 ghost use Rattle.doll_expr.specs.declared.expr.Expr.{Expr};
 ghost use Rattle.doll_expr.specs.declared.token.Token.{Token};
-ghost use Rattle.doll_expr.specs.Gives.{Gives};
+ghost use Rattle.doll_text.specs.Gives.{Gives, GivesExactly};
 ghost use Rattle.doll_expr.specs.Grammar as grammar;
 ghost use Rattle.doll_expr.specs.Grammar.{AreExpr, BeginsExpr, Sentence, ends_expr};
 ghost use Rattle.doll_expr.specs.Reading as spec;
-ghost use Rattle.doll_expr.specs.Reading.{GivesBy, Reads};
+ghost use Rattle.doll_expr.specs.Reading.{Reads};
 ghost use Rattle.doll_expr.specs.Tokens.{is_mark, is_word};
 
 use crate::expr::{Expr, ExprFault, Op, Query};
 use crate::level::{Level, Sign, operator_of, repeats, tighter};
-use crate::memory::Memory;
-use crate::text::Name;
-use crate::token::{Mark, Token, TokenKind, Word};
-use sqlite_items::Boxed;
+use crate::token::{Mark, Token, TokenKind};
+use doll_text::{Boxed, Memory, Name, Word};
 use std::alloc::Global;
 
 /// More than the tokens of a text take, which are at most 201 and take less than 16 each. Each call of the reading takes one.
@@ -199,7 +197,7 @@ fn atom<'a>(
 
 #[tactic(auto, unfolding(crate::specs::Reading::close_at))]
 fn close(opened: u32, tokens: &[Token]) -> Result<&[Token], ExprFault>
-    ensures { GivesBy (λ x. x.now) (spec.close_at opened tokens.now) result }
+    ensures { GivesExactly (λ x. x.now) (spec.close_at opened tokens.now) result }
 {
     if !is_mark(Mark::Close, tokens) {
         return Err(stops_at(Some(opened), tokens));

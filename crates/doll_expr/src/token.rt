@@ -1,10 +1,10 @@
 //! The tokens of expressions and of the templates' tags.
 
 use crate::expr::{ExprFault, Query};
-use crate::text::{Name, Text};
+use doll_text::{Name, Text, Word};
 
 /// A token, and the place of its first byte.
-#[derive(Debug, Drop)]
+#[derive(Drop)]
 pub struct Token {
     pub kind: TokenKind,
     /// Counted in bytes from the text's first.
@@ -12,7 +12,7 @@ pub struct Token {
 }
 
 /// What a token is. A list of tokens ends in `End` or in a `Fault`, which stand nowhere else.
-#[derive(Debug, Drop)]
+#[derive(Drop)]
 pub enum TokenKind {
     /// A decimal number.
     Number(i64),
@@ -30,31 +30,8 @@ pub enum TokenKind {
     Fault(ExprFault),
 }
 
-/// The words of the grammars of expressions and tags, which are no names.
-#[derive(Clone, Copy, Debug, PartialEq, Eq)]
-pub enum Word {
-    Nil,
-    True,
-    False,
-    If,
-    Elsif,
-    Else,
-    End,
-    Do,
-    Each,
-    Cache,
-    Render,
-    Partial,
-    Collection,
-    As,
-    Cached,
-    Id,
-    UpdatedAt,
-    Size,
-}
-
 /// The marks of the grammars of expressions and tags.
-#[derive(Clone, Copy, Debug, PartialEq, Eq)]
+#[derive(Clone, Copy, PartialEq, Eq)]
 pub enum Mark {
     /// `(`
     Open,

@@ -9,10 +9,10 @@ use Rattle.std.proofs.lemmas.Int.{of_z-to_z, to_z-of_z}
 use Rattle.std.proofs.Math.Facts.{Fits-lt-pow, Fits-of_lt, Fits-of_z, sfits_to_z}
 use Rattle.std.proofs.lemmas.List.{append-nil, nil_from_length}
 use Rattle.std.proofs.lemmas.List.Concat.{flat_map-cons}
-use Rattle.doll_expr.specs.Gives.{Gives}
+use Rattle.doll_text.specs.Gives.{Gives}
 use Rattle.doll_schema.specs.declared.value.Value.{Value}
 use Rattle.doll_schema.specs.declared.value.Value.TheVariants as values
-use Rattle.doll_schema.specs.Steps.{◌>>=◌, ◌>>◌, check}
+use Rattle.doll_text.specs.Steps.{◌>>=◌, ◌>>◌, check}
 use Rattle.doll_journal.specs.declared.change.Change.{Change}
 use Rattle.doll_journal.specs.declared.change.Change.TheVariants as changes
 use Rattle.doll_journal.specs.declared.change.Commit.{Commit}

@@ -1,7 +1,7 @@
 -- Reading so many fields of one sort, of which the first are read already.
 use Rattle.std.proofs.Common.{◌≡◌, ℕ, suc, ◌+◌, ◌-◌, ◌<◌, ◌≤◌, List, [], ◌∷◌, ◌++◌, Ok, Err, refl, sym, ap, ◌∙◌, append_assoc, arith}
 use Rattle.std.proofs.lemmas.List.{append-nil}
-use Rattle.doll_schema.specs.Steps.{◌>>=◌}
+use Rattle.doll_text.specs.Steps.{◌>>=◌}
 use Rattle.doll_journal.specs.declared.fault.JournalFault.{JournalFault}
 use Rattle.doll_journal.specs.Reading.{Field, repeated}
 

@@ -1,5 +1,4 @@
 pub mod Forms
 pub mod Reading
-pub mod Seen
 pub mod Spelling
 pub mod Storable

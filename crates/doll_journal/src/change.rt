@@ -2,7 +2,7 @@
 
 ghost use Rattle.std.specs.Prelude.{◌≡◌, IfOk};
 
-use doll_expr::{Copied, Items, Memory, Name, copy_list};
+use doll_text::{Copied, Items, Memory, Name, copy_list};
 use doll_schema::Value;
 use std::alloc::Global;
 
@@ -10,7 +10,7 @@ use std::alloc::Global;
 pub type Given = Items<(Name, Value)>;
 
 /// A change of one record. A model is meant by its name.
-#[derive(Debug, Drop)]
+#[derive(Drop)]
 pub enum Change {
     Create { model: Name, values: Given },
     Update { model: Name, id: u32, values: Given },
@@ -22,7 +22,7 @@ pub enum Change {
 pub type Changes = Items<Change>;
 
 /// Changes that are made together.
-#[derive(Debug, Drop)]
+#[derive(Drop)]
 pub struct Commit {
     /// The number of who made it.
     pub author: u32,

@@ -2,18 +2,18 @@
 
 ghost use Rattle.std.specs.Prelude.{◌≡◌, IfOk};
 ghost use Rattle.std.specs.Int.{w32, w64};
-ghost use Rattle.doll_expr.specs.Gives.{Gives};
+ghost use Rattle.doll_text.specs.Gives.{Gives};
 ghost use Rattle.doll_journal.specs.declared.change.Commit.{Commit};
 ghost use Rattle.doll_journal.specs.Spelling.{spelling};
 ghost use Rattle.doll_journal.specs.Storable.{IsStorable, OneSpelling};
-ghost use Rattle.doll_journal.specs.Seen.{GivesSeen};
+ghost use Rattle.doll_text.specs.Gives.{GivesBy, GivesExactly};
 ghost use Rattle.doll_journal.specs.Reading.{place, byte_at, number_at, text_at, tagged_value, value_at, pair_at, repeated, given_at, create_at, update_at, mark_at, tagged_change, change_at, changes_at, commit_at, commit_of};
 
 use crate::change::{Change, Changes, Commit, Given};
 use crate::fault::JournalFault;
 use crate::lengths::MOST_BYTES;
 use crate::storable::is_text;
-use doll_expr::{Items, Name, Text};
+use doll_text::{Items, Name, Text};
 use doll_schema::Value;
 use std::alloc::Global;
 
@@ -59,7 +59,7 @@ fn place(total: usize, rest: &[u8]) -> u64
 
 #[tactic(auto, unfolding(crate::specs::Reading::commit_at))]
 fn commit_at(alloc: Global, total: usize, bytes: &[u8]) -> Result<(Commit, &[u8]), JournalFault>
-    ensures { GivesSeen (λ x. (x.0, x.1.now)) JournalFault.Memory (commit_at total bytes.now) result }
+    ensures { GivesBy (λ x. (x.0, x.1.now)) JournalFault.Memory (commit_at total bytes.now) result }
 {
     let (author, rest) = u32_at(total, bytes)?;
     let (serial, rest) = u64_at(total, rest)?;
@@ -75,7 +75,7 @@ fn commit_at(alloc: Global, total: usize, bytes: &[u8]) -> Result<(Commit, &[u8]
 }
 
 fn byte_at(total: usize, bytes: &[u8]) -> Result<(u8, &[u8]), JournalFault>
-    ensures { GivesSeen (λ x. (x.0, x.1.now)) JournalFault.Memory (byte_at total bytes.now) result }
+    ensures { GivesExactly (λ x. (x.0, x.1.now)) (byte_at total bytes.now) result }
 {
     let [byte, rest @ ..] = bytes else {
         return Err(JournalFault::Truncated {
@@ -86,7 +86,7 @@ fn byte_at(total: usize, bytes: &[u8]) -> Result<(u8, &[u8]), JournalFault>
 }
 
 fn u32_at(total: usize, bytes: &[u8]) -> Result<(u32, &[u8]), JournalFault>
-    ensures { GivesSeen (λ x. (x.0, x.1.now)) JournalFault.Memory (number_at w32 total bytes.now) result }
+    ensures { GivesExactly (λ x. (x.0, x.1.now)) (number_at w32 total bytes.now) result }
 {
     if bytes.len() < 4 {
         return Err(JournalFault::Truncated {
@@ -99,7 +99,7 @@ fn u32_at(total: usize, bytes: &[u8]) -> Result<(u32, &[u8]), JournalFault>
 }
 
 fn u64_at(total: usize, bytes: &[u8]) -> Result<(u64, &[u8]), JournalFault>
-    ensures { GivesSeen (λ x. (x.0, x.1.now)) JournalFault.Memory (number_at w64 total bytes.now) result }
+    ensures { GivesExactly (λ x. (x.0, x.1.now)) (number_at w64 total bytes.now) result }
 {
     if bytes.len() < 8 {
         return Err(JournalFault::Truncated {
@@ -116,7 +116,7 @@ fn u64_at(total: usize, bytes: &[u8]) -> Result<(u64, &[u8]), JournalFault>
 /// The bytes of a text, and those after it.
 #[tactic(auto, unfolding(crate::specs::Reading::text_at))]
 fn text_at(total: usize, bytes: &[u8]) -> Result<(&[u8], &[u8]), JournalFault>
-    ensures { GivesSeen (λ x. (x.0.now, x.1.now)) JournalFault.Memory (text_at total bytes.now) result }
+    ensures { GivesExactly (λ x. (x.0.now, x.1.now)) (text_at total bytes.now) result }
 {
     let (len, rest) = u32_at(total, bytes)?;
     let len = len as usize;
@@ -133,7 +133,7 @@ fn text_at(total: usize, bytes: &[u8]) -> Result<(&[u8], &[u8]), JournalFault>
 
 #[tactic(auto, unfolding(crate::specs::Reading::value_at))]
 fn value_at(alloc: Global, total: usize, bytes: &[u8]) -> Result<(Value, &[u8]), JournalFault>
-    ensures { GivesSeen (λ x. (x.0, x.1.now)) JournalFault.Memory (value_at total bytes.now) result }
+    ensures { GivesBy (λ x. (x.0, x.1.now)) JournalFault.Memory (value_at total bytes.now) result }
 {
     let (tag, rest) = byte_at(total, bytes)?;
     tagged_value(alloc, total, place(total, bytes), tag, rest)
@@ -147,7 +147,7 @@ fn tagged_value(
     tag: u8,
     bytes: &[u8],
 ) -> Result<(Value, &[u8]), JournalFault>
-    ensures { GivesSeen (λ x. (x.0, x.1.now)) JournalFault.Memory (tagged_value total at tag bytes.now) result }
+    ensures { GivesBy (λ x. (x.0, x.1.now)) JournalFault.Memory (tagged_value total at tag bytes.now) result }
 {
     match tag {
         0 => Ok((Value::Nil, bytes)),
@@ -171,7 +171,7 @@ fn pair_at(
     total: usize,
     bytes: &[u8],
 ) -> Result<((Name, Value), &[u8]), JournalFault>
-    ensures { GivesSeen (λ x. (x.0, x.1.now)) JournalFault.Memory (pair_at total bytes.now) result }
+    ensures { GivesBy (λ x. (x.0, x.1.now)) JournalFault.Memory (pair_at total bytes.now) result }
 {
     let (name, rest) = text_at(total, bytes)?;
     let name = Name::from_bytes(alloc, name)?;
@@ -185,7 +185,7 @@ fn pairs_at(
     count: u32,
     bytes: &[u8],
 ) -> Result<(Given, &[u8]), JournalFault>
-    ensures { GivesSeen (λ x. (x.0, x.1.now)) JournalFault.Memory (repeated (pair_at total) count bytes.now) result }
+    ensures { GivesBy (λ x. (x.0, x.1.now)) JournalFault.Memory (repeated (pair_at total) count bytes.now) result }
 {
     let mut given = Items::new(alloc);
     let mut rest = bytes;
@@ -199,7 +199,7 @@ fn pairs_at(
 
 #[tactic(auto, unfolding(crate::specs::Reading::given_at))]
 fn given_at(alloc: Global, total: usize, bytes: &[u8]) -> Result<(Given, &[u8]), JournalFault>
-    ensures { GivesSeen (λ x. (x.0, x.1.now)) JournalFault.Memory (given_at total bytes.now) result }
+    ensures { GivesBy (λ x. (x.0, x.1.now)) JournalFault.Memory (given_at total bytes.now) result }
 {
     let (count, rest) = u32_at(total, bytes)?;
     pairs_at(alloc, total, count, rest)
@@ -207,7 +207,7 @@ fn given_at(alloc: Global, total: usize, bytes: &[u8]) -> Result<(Given, &[u8]),
 
 #[tactic(auto, unfolding(crate::specs::Reading::create_at))]
 fn create_at(alloc: Global, total: usize, bytes: &[u8]) -> Result<(Change, &[u8]), JournalFault>
-    ensures { GivesSeen (λ x. (x.0, x.1.now)) JournalFault.Memory (create_at total bytes.now) result }
+    ensures { GivesBy (λ x. (x.0, x.1.now)) JournalFault.Memory (create_at total bytes.now) result }
 {
     let (model, rest) = text_at(total, bytes)?;
     let model = Name::from_bytes(alloc, model)?;
@@ -217,7 +217,7 @@ fn create_at(alloc: Global, total: usize, bytes: &[u8]) -> Result<(Change, &[u8]
 
 #[tactic(auto, unfolding(crate::specs::Reading::update_at))]
 fn update_at(alloc: Global, total: usize, bytes: &[u8]) -> Result<(Change, &[u8]), JournalFault>
-    ensures { GivesSeen (λ x. (x.0, x.1.now)) JournalFault.Memory (update_at total bytes.now) result }
+    ensures { GivesBy (λ x. (x.0, x.1.now)) JournalFault.Memory (update_at total bytes.now) result }
 {
     let (model, rest) = text_at(total, bytes)?;
     let model = Name::from_bytes(alloc, model)?;
@@ -229,7 +229,7 @@ fn update_at(alloc: Global, total: usize, bytes: &[u8]) -> Result<(Change, &[u8]
 /// The name of a model and an id of it.
 #[tactic(auto, unfolding(crate::specs::Reading::mark_at))]
 fn mark_at(alloc: Global, total: usize, bytes: &[u8]) -> Result<((Name, u32), &[u8]), JournalFault>
-    ensures { GivesSeen (λ x. (x.0, x.1.now)) JournalFault.Memory (mark_at total bytes.now) result }
+    ensures { GivesBy (λ x. (x.0, x.1.now)) JournalFault.Memory (mark_at total bytes.now) result }
 {
     let (model, rest) = text_at(total, bytes)?;
     let model = Name::from_bytes(alloc, model)?;
@@ -245,7 +245,7 @@ fn tagged_change(
     tag: u8,
     bytes: &[u8],
 ) -> Result<(Change, &[u8]), JournalFault>
-    ensures { GivesSeen (λ x. (x.0, x.1.now)) JournalFault.Memory (tagged_change total at tag bytes.now) result }
+    ensures { GivesBy (λ x. (x.0, x.1.now)) JournalFault.Memory (tagged_change total at tag bytes.now) result }
 {
     match tag {
         1 => create_at(alloc, total, bytes),
@@ -264,7 +264,7 @@ fn tagged_change(
 
 #[tactic(auto, unfolding(crate::specs::Reading::change_at))]
 fn change_at(alloc: Global, total: usize, bytes: &[u8]) -> Result<(Change, &[u8]), JournalFault>
-    ensures { GivesSeen (λ x. (x.0, x.1.now)) JournalFault.Memory (change_at total bytes.now) result }
+    ensures { GivesBy (λ x. (x.0, x.1.now)) JournalFault.Memory (change_at total bytes.now) result }
 {
     let (tag, rest) = byte_at(total, bytes)?;
     tagged_change(alloc, total, place(total, bytes), tag, rest)
@@ -276,7 +276,7 @@ fn list_at(
     count: u32,
     bytes: &[u8],
 ) -> Result<(Changes, &[u8]), JournalFault>
-    ensures { GivesSeen (λ x. (x.0, x.1.now)) JournalFault.Memory (repeated (change_at total) count bytes.now) result }
+    ensures { GivesBy (λ x. (x.0, x.1.now)) JournalFault.Memory (repeated (change_at total) count bytes.now) result }
 {
     let mut changes = Items::new(alloc);
     let mut rest = bytes;
@@ -290,7 +290,7 @@ fn list_at(
 
 #[tactic(auto, unfolding(crate::specs::Reading::changes_at))]
 fn changes_at(alloc: Global, total: usize, bytes: &[u8]) -> Result<(Changes, &[u8]), JournalFault>
-    ensures { GivesSeen (λ x. (x.0, x.1.now)) JournalFault.Memory (changes_at total bytes.now) result }
+    ensures { GivesBy (λ x. (x.0, x.1.now)) JournalFault.Memory (changes_at total bytes.now) result }
 {
     let (count, rest) = u32_at(total, bytes)?;
     list_at(alloc, total, count, rest)

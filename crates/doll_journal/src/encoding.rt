@@ -5,7 +5,7 @@ ghost use Rattle.std.specs.Int.{w32, to_be_bytes};
 ghost use Rattle.doll_journal.specs.Spelling.{text_bytes, value_bytes, pair_bytes, given_bytes, change_bytes, changes_bytes, spelling};
 
 use crate::change::{Change, Commit};
-use doll_expr::{Memory, Name};
+use doll_text::{Memory, Name};
 use doll_schema::Value;
 use std::alloc::Global;
 

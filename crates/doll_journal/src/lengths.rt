@@ -4,7 +4,7 @@ ghost use Rattle.std.specs.Prelude.{◌≡◌, ◌+◌, ◌^◌, length, min, na
 ghost use Rattle.doll_journal.specs.Spelling.{text_bytes, value_bytes, pair_bytes, given_bytes, change_bytes, changes_bytes};
 
 use crate::change::Change;
-use doll_expr::Name;
+use doll_text::Name;
 use doll_schema::Value;
 
 /// The most bytes of a commit: 2^31.

@@ -15,6 +15,3 @@ pub use encoding::encode;
 pub use fault::JournalFault;
 pub use forms::changes_of;
 pub use storable::are_storable;
-
-#[cfg(test)]
-mod tests;

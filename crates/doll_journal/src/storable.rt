@@ -8,7 +8,7 @@ ghost use Rattle.doll_journal.specs.Storable.{FitsValue, FitsPair, FitsChange, A
 
 use crate::change::Change;
 use crate::lengths::have_room;
-use doll_expr::Name;
+use doll_text::Name;
 use doll_schema::Value;
 
 /// Whether a commit may have these changes, whoever makes it: their names and texts are UTF-8, and with them its bytes are

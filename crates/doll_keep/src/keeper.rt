@@ -8,7 +8,7 @@ ghost use Rattle.doll_keep.specs.declared.keeper.KeepFault.TheVariants.{Failed, 
 use std::alloc::{AllocError, Global};
 
 /// Why an item was not added or loaded.
-#[derive(Clone, Copy, Debug, PartialEq, Eq)]
+#[derive(Clone, Copy, PartialEq, Eq)]
 pub enum KeepFault {
     /// The keeper failed.
     Failed,

@@ -6,6 +6,3 @@ pub mod mem_keeper;
 
 pub use keeper::{KeepFault, Keeper};
 pub use mem_keeper::{MemKeeper, never_fails};
-
-#[cfg(test)]
-mod tests;

@@ -14,7 +14,7 @@ use Rattle.doll_erb.specs.declared.node.Node.TheFolds.{fold-roll-Node, fold_out-
 use Rattle.doll_erb.specs.declared.node.Node.TheVariants.{rolls-If, rolls-Each, rolls-Cache, rolls-Collection}
 use Rattle.doll_erb.specs.declared.node.Node.TheOpen.{Node-F}
 use Rattle.doll_erb.specs.declared.node.Arm.{Arm, fold-Arm}
-use Rattle.doll_expr.specs.declared.memory.Memory.{Memory}
+use Rattle.doll_text.specs.declared.memory.Memory.{Memory}
 use Rattle.doll_schema.specs.declared.model.Schema.{Schema}
 use Rattle.doll_table.specs.Tables.{TableMap}
 use Rattle.doll_plain.specs.Direct.{plain_scene, Scene, Variables, Writes, Choice, written, direct, chosen, value_in, in_order, items_of, node_step, arm_step}

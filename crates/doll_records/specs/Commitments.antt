@@ -1,6 +1,6 @@
 -- What recording a commit after a history comes to (this project's own).
 use Rattle.std.specs.Prelude.{◌≡◌, ◌⊎◌, ℕ, ◌+◌, ◌-◌, ◌^◌, nat_lt, Bool, true, false, List, length, Result, Ok, Err}
-use Rattle.doll_schema.specs.Steps.{◌>>=◌, ◌>>◌, check}
+use Rattle.doll_text.specs.Steps.{◌>>=◌, ◌>>◌, check}
 use Rattle.doll_schema.specs.declared.model.Schema.{Schema}
 use Rattle.doll_journal.specs.declared.change.Change.{Change}
 use Rattle.doll_journal.specs.declared.change.Commit.{Commit}

@@ -3,7 +3,7 @@
 ghost use Rattle.std.specs.Prelude.{◌≡◌, ◌+◌, ◌<◌, ◌≤◌, ◌^◌, ◌∷◌, [], ◌++◌, length, vec_len, vec_capacity, IfOk, OnOk, OnErr, IsErrOf, IsOk};
 ghost use Rattle.doll_base.specs.Faults.{KeepsCount, HasCause};
 ghost use Rattle.doll_keep.specs.Kept.{Added, has_failed};
-ghost use Rattle.doll_journal.specs.Seen.{GivesSeen};
+ghost use Rattle.doll_text.specs.Gives.{GivesBy};
 ghost use Rattle.doll_journal.specs.Spelling.{spelling};
 ghost use Rattle.doll_journal.specs.Storable.{AreStorable};
 ghost use Rattle.doll_table.specs.Fits.{Fits};
@@ -17,7 +17,7 @@ ghost use Rattle.doll_records.specs.declared.fault.RecordFault.TheVariants as fa
 use crate::fault::RecordFault;
 use crate::records::{Records, SharedTable};
 use doll_commit::apply;
-use doll_expr::Ids;
+use doll_text::Ids;
 use doll_journal::{Changes, Commit, encode};
 use doll_keep::{KeepFault, Keeper};
 use doll_schema::Schema;
@@ -60,7 +60,7 @@ fn prepare(
 ) -> Result<Prepared, RecordFault>
     requires fits { Fits schema.now table.now }
     requires room { length (spelling commit.now) ≤ 2 ^ 31 }
-    ensures exact { GivesSeen made faults.Memory (or_refused (commit_of table.now schema.now commit.now)) result }
+    ensures exact { GivesBy made faults.Memory (or_refused (commit_of table.now schema.now commit.now)) result }
     ensures bytes { IfOk result (λ prepared. prepared.bytes.items ≡ spelling commit.now) }
     ensures fits { IfOk result (λ prepared. Fits schema.now prepared.table) }
     ensures moments { IfOk result (λ prepared. CarriesMoment schema.now table.now prepared.table commit.now.moment) }

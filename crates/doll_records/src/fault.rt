@@ -6,13 +6,13 @@ ghost use Rattle.doll_records.specs.declared.fault.OpenFault.TheVariants as open
 ghost use Rattle.doll_records.specs.declared.fault.RecordFault.TheVariants as records;
 
 use doll_commit::{CommitFault, Why};
-use doll_expr::Memory;
+use doll_text::Memory;
 use doll_journal::JournalFault;
 use doll_keep::KeepFault;
 use std::alloc::{AllocError, AllocFailed};
 
 /// Why a keeper's items are no history. `index` counts the items from 0.
-#[derive(Clone, Copy, Debug, PartialEq, Eq)]
+#[derive(Clone, Copy, PartialEq, Eq)]
 pub enum OpenFault {
     /// The keeper failed.
     Kept,
@@ -29,7 +29,7 @@ pub enum OpenFault {
 }
 
 /// Why a commit isn't recorded. Of several reasons the first in the order of the variants is told.
-#[derive(Clone, Copy, Debug, PartialEq, Eq)]
+#[derive(Clone, Copy, PartialEq, Eq)]
 pub enum RecordFault {
     /// The history has as many commits as it may have.
     HistoryFull { count: u64 },

@@ -10,6 +10,3 @@ pub use committing::Committed;
 pub use fault::{OpenFault, RecordFault};
 pub use opening::{Past, opens_again, replay};
 pub use records::{Records, SharedTable, Snapshot, moments_tell_places};
-
-#[cfg(test)]
-mod tests;

@@ -2,10 +2,10 @@
 
 ghost use Rattle.std.specs.Prelude.{◌≡◌, ◌+◌, ◌<◌, ◌≤◌, ◌∷◌, [], ◌++◌, ℕ, map, length, IfOk, IsErrOf};
 ghost use Rattle.doll_base.specs.Faults.{Rose, KeepsCount, HasCause};
-ghost use Rattle.doll_expr.specs.Gives.{Gives};
+ghost use Rattle.doll_text.specs.Gives.{Gives};
 ghost use Rattle.doll_keep.specs.Calls.{Serves, FailsAfter};
 ghost use Rattle.doll_journal.specs.Reading as journal;
-ghost use Rattle.doll_journal.specs.Seen.{GivesSeen};
+ghost use Rattle.doll_text.specs.Gives.{GivesBy};
 ghost use Rattle.doll_journal.specs.Spelling.{spelling};
 ghost use Rattle.doll_journal.specs.Storable.{IsStorable};
 ghost use Rattle.doll_table.specs.Fits.{Fits};
@@ -19,7 +19,7 @@ use crate::committing::{LAST_MOMENT, MOST_COMMITS};
 use crate::fault::OpenFault;
 use crate::records::{Records, SharedTable};
 use doll_commit::{Applied, CommitFault, apply};
-use doll_expr::Memory;
+use doll_text::Memory;
 use doll_journal::{Commit, JournalFault, decode};
 use doll_keep::Keeper;
 use doll_schema::Schema;
@@ -107,7 +107,7 @@ fn with_item(
     requires holds { Holds schema.now past.history.items past.table past.moment }
     requires index { index ≡ length past.history.items }
     requires room { index < most_commits }
-    ensures exact { GivesSeen (λ next. next.history.items) OpenFault.Memory (opened_with schema.now past.history.items item.now) result }
+    ensures exact { GivesBy (λ next. next.history.items) OpenFault.Memory (opened_with schema.now past.history.items item.now) result }
     ensures holds { IfOk result (λ next. Holds schema.now next.history.items next.table next.moment) }
     ensures item { IfOk result (λ next. map spelling next.history.items ≡ map spelling past.history.items ++ item.now ∷ []) }
     ensures blame { IsErrOf result faults.Kept → ⊥ }

@@ -17,8 +17,8 @@ use Rattle.doll_schema.specs.declared.model.Attribute.{Attribute}
 use Rattle.doll_schema.specs.declared.model.Kind.{Kind}
 use Rattle.doll_schema.specs.declared.model.Kind.TheVariants.{Boolean, Integer, Text}
 use Rattle.doll_schema.specs.Json.{bool_or, has_only, list_at, list_or_empty, text_at}
-use Rattle.doll_expr.specs.Names.{is_name}
-use Rattle.doll_schema.specs.Steps.{◌>>=◌, ◌>>◌, check}
+use Rattle.doll_text.specs.Names.{is_name}
+use Rattle.doll_text.specs.Steps.{◌>>=◌, ◌>>◌, check}
 
 -- the place of an item of a model's part
 abbrev pub place : ℕ → Part → ℕ → Place

@@ -3,4 +3,3 @@ pub mod Escape
 pub mod Json
 pub mod Limits
 pub mod Schemas
-pub mod Steps

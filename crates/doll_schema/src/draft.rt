@@ -1,10 +1,10 @@
 //! Models as they are written: what they refer to is still a name.
 
 use crate::model::Attributes;
-use doll_expr::{Items, Name, Text};
+use doll_text::{Items, Name, Text};
 
 /// An association to a parent.
-#[derive(Debug, Drop)]
+#[derive(Drop)]
 pub struct ParentDraft {
     pub name: Name,
     /// The foreign key: the name followed by `_id`.
@@ -16,7 +16,7 @@ pub struct ParentDraft {
 }
 
 /// An association to children.
-#[derive(Debug, Drop)]
+#[derive(Drop)]
 pub struct ManyDraft {
     pub name: Name,
     /// The name of the children's model.
@@ -31,7 +31,7 @@ pub type ParentDrafts = Items<ParentDraft>;
 pub type ManyDrafts = Items<ManyDraft>;
 
 /// A model whose associations aren't looked up yet.
-#[derive(Debug, Drop)]
+#[derive(Drop)]
 pub struct ModelDraft {
     pub name: Name,
     pub plural: Name,

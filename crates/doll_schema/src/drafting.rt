@@ -6,7 +6,7 @@ ghost use Rattle.std.specs.Option.{ok_or};
 ghost use Rattle.std.specs.Str.{bytes_eq};
 ghost use Rattle.serde_json.specs.Find.{get};
 ghost use Rattle.serde_json.specs.View.{items_view, view};
-ghost use Rattle.doll_expr.specs.Gives.{Gives};
+ghost use Rattle.doll_text.specs.Gives.{Gives};
 ghost use Rattle.doll_schema.specs.Limits.{HasFewDrafts, AreDraftsWithinLimits};
 ghost use Rattle.doll_schema.specs.Drafts.{attribute_of, attributes_from, parent_of, parents_from, many_of, manys_from, attributes_of, parents_of, manys_of, model_of, model_with, models_from, drafts_of, name_at, kind_named, destroy_named, destroy_if_given, is_taken, is_model, is_plural, has_model_keys, model_items, place};
 
@@ -14,7 +14,7 @@ use crate::draft::{ManyDraft, ManyDrafts, ModelDraft, ModelDrafts, ParentDraft, 
 use crate::fault::{Part, Place, SchemaFault};
 use crate::json::{bool_or, has_only, list_at, list_or_empty, text_at};
 use crate::model::{Attribute, Attributes, Kind};
-use doll_expr::{Items, Memory, Name, Text, is_name};
+use doll_text::{Items, Memory, Name, Text, is_name};
 use serde_json::Value;
 use std::alloc::Global;
 

@@ -3,7 +3,7 @@
 ghost use Rattle.std.specs.Prelude.{◌≡◌, ◌++◌, length, take, option_map, OnOk, OnErr};
 ghost use Rattle.doll_schema.specs.Escape.{escaped, reference};
 
-use doll_expr::Memory;
+use doll_text::Memory;
 
 /// Appends the text with `& < > " '` as `&amp; &lt; &gt; &quot; &#39;`. A refusal changes nothing.
 pub fn escape(text: &str, out: &mut Vec<u8>) -> Result<(), Memory>

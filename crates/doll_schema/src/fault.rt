@@ -3,7 +3,7 @@
 ghost use Rattle.std.specs.Prelude.{◌≡◌};
 ghost use Rattle.doll_schema.specs.declared.fault.SchemaFault.TheVariants as faults;
 
-use doll_expr::Memory;
+use doll_text::Memory;
 use std::alloc::{AllocError, AllocFailed};
 use thiserror::Error;
 

@@ -16,6 +16,3 @@ pub use model::{
     Attribute, Attributes, BelongsTo, HasMany, Kind, Manys, Model, Models, Parents, Schema,
 };
 pub use value::{ParentIds, Row, Val, Value, Values, Vars};
-
-#[cfg(test)]
-mod tests;

@@ -2,7 +2,7 @@
 
 ghost use Rattle.std.specs.Prelude.{◌≡◌, ◌<◌, ◌≤◌, ◌&&◌, ◌==◌, ◌++◌, [], length, IfOk, IfSome};
 ghost use Rattle.std.specs.Str.{bytes_eq};
-ghost use Rattle.doll_expr.specs.Gives.{Gives};
+ghost use Rattle.doll_text.specs.Gives.{Gives};
 ghost use Rattle.doll_schema.specs.Drafts.{place};
 ghost use Rattle.doll_schema.specs.Limits.{HasFewDrafts, HasFewParts, AreDraftsWithinLimits, AreWithinLimits};
 ghost use Rattle.doll_schema.specs.Schemas.{model_named, parent_named, inverse_named, has_inverse, belongs_to_of, has_many_of, belongs_to_from, has_many_from, linked_model, linked_from};
@@ -10,7 +10,7 @@ ghost use Rattle.doll_schema.specs.Schemas.{model_named, parent_named, inverse_n
 use crate::draft::{ManyDraft, ModelDraft, ParentDraft};
 use crate::fault::{Part, Place, SchemaFault};
 use crate::model::{BelongsTo, HasMany, Manys, Model, Models, Parents};
-use doll_expr::{Copied, Items, copy_list};
+use doll_text::{Copied, Items, copy_list};
 use std::alloc::Global;
 
 /// All models with their associations looked up, or the first fault of these.

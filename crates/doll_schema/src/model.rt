@@ -2,18 +2,18 @@
 
 ghost use Rattle.std.specs.Prelude.{◌≡◌, IfOk};
 ghost use Rattle.serde_json.specs.View.{view};
-ghost use Rattle.doll_expr.specs.Gives.{Gives};
+ghost use Rattle.doll_text.specs.Gives.{Gives};
 ghost use Rattle.doll_schema.specs.Limits.{AreWithinLimits};
 ghost use Rattle.doll_schema.specs.Schemas.{schema_of};
 
 use crate::drafting::drafts_of;
 use crate::fault::SchemaFault;
 use crate::linking::linked;
-use doll_expr::{Copied, Items, Memory, Name, copy_list};
+use doll_text::{Copied, Items, Memory, Name, copy_list};
 use std::alloc::Global;
 
 /// What an attribute holds.
-#[derive(Clone, Copy, Debug, PartialEq, Eq)]
+#[derive(Clone, Copy, PartialEq, Eq)]
 pub enum Kind {
     /// A whole number of 64 bits, signed.
     Integer,
@@ -22,7 +22,7 @@ pub enum Kind {
 }
 
 /// A named value of each record of a model.
-#[derive(Debug, Drop)]
+#[derive(Drop)]
 pub struct Attribute {
     pub name: Name,
     pub kind: Kind,
@@ -31,7 +31,7 @@ pub struct Attribute {
 }
 
 /// An association to one parent record, kept as a foreign key of the record.
-#[derive(Debug, Drop)]
+#[derive(Drop)]
 pub struct BelongsTo {
     pub name: Name,
     /// The number of the parent's model.
@@ -43,7 +43,7 @@ pub struct BelongsTo {
 }
 
 /// An association to the records whose foreign key names this one.
-#[derive(Debug, Drop)]
+#[derive(Drop)]
 pub struct HasMany {
     pub name: Name,
     /// The number of the children's model.
@@ -61,7 +61,7 @@ pub type Parents = Items<BelongsTo>;
 pub type Manys = Items<HasMany>;
 
 /// A kind of record.
-#[derive(Debug, Drop)]
+#[derive(Drop)]
 pub struct Model {
     pub name: Name,
     pub plural: Name,
@@ -73,7 +73,7 @@ pub struct Model {
 pub type Models = Items<Model>;
 
 /// The models of a site. A model is named by its number in this list.
-#[derive(Debug, Drop)]
+#[derive(Drop)]
 pub struct Schema {
     pub models: Models,
 }

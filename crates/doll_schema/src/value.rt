@@ -2,11 +2,11 @@
 
 ghost use Rattle.std.specs.Prelude.{◌≡◌, IfOk};
 
-use doll_expr::{Copied, Ids, Items, Memory, Name, Text, copy_list};
+use doll_text::{Copied, Ids, Items, Memory, Name, Text, copy_list};
 use std::alloc::Global;
 
 /// A single value.
-#[derive(Debug, Drop)]
+#[derive(Drop)]
 pub enum Value {
     Nil,
     Bool(bool),
@@ -20,7 +20,7 @@ pub type Values = Items<Value>;
 pub type ParentIds = Items<Option<u32>>;
 
 /// A record, without its model and its id.
-#[derive(Debug, Drop)]
+#[derive(Drop)]
 pub struct Row {
     /// In the order of the model's attributes.
     pub values: Values,
@@ -31,7 +31,7 @@ pub struct Row {
 }
 
 /// What a variable or an expression of a template may be.
-#[derive(Debug, Drop)]
+#[derive(Drop)]
 pub enum Val {
     Plain(Value),
     Record { model: u16, id: u32 },

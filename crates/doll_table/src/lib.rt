@@ -10,6 +10,3 @@ pub mod table;
 pub use looking::Looking;
 pub use rows::{Assoc, Rows};
 pub use table::Table;
-
-#[cfg(test)]
-mod tests;

@@ -6,7 +6,7 @@ ghost use Rattle.std.specs.Ordering.{nat_cmp, eq_by_cmp};
 ghost use Rattle.std.specs.FinMap.Entries.{find, put, where_key, is_sorted};
 ghost use Rattle.doll_table.specs.Links.{linked, child_of, link_of, has_link, linked_child};
 
-use doll_expr::Memory;
+use doll_text::Memory;
 use doll_schema::Row;
 use std::alloc::Global;
 

@@ -7,7 +7,7 @@ ghost use Rattle.doll_schema.specs.declared.value.Row.{Row};
 ghost use Rattle.doll_table.specs.Tables.{names_parent};
 
 use crate::links::{Links, link, relink, unlink};
-use doll_expr::{Copied, Memory};
+use doll_text::{Copied, Memory};
 use doll_schema::Row;
 use std::alloc::Global;
 use std::marker::Model;

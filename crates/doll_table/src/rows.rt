@@ -7,7 +7,7 @@ ghost use Rattle.doll_table.specs.Tables.{row_of, children_of, ids_of, many_of};
 use doll_schema::Row;
 
 /// The association of a model to its children, by the numbers of both.
-#[derive(Clone, Copy, Debug, PartialEq, Eq)]
+#[derive(Clone, Copy, PartialEq, Eq)]
 pub struct Assoc {
     /// The parents' model.
     pub model: u16,

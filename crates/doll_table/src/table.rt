@@ -7,7 +7,7 @@ ghost use Rattle.doll_table.specs.Fits.{Fits};
 
 use crate::model_rows::ModelRows;
 use crate::rows::Assoc;
-use doll_expr::{Copied, Memory};
+use doll_text::{Copied, Memory};
 use doll_schema::{Row, Schema};
 use std::alloc::Global;
 use std::marker::Model;

@@ -1,5 +1,5 @@
 use Rattle.std.proofs.Common.{◌≡◌, true, false, sym, ◌∙◌, take, rules, arith}
-use Rattle.doll_expr.specs.Names.{is_word}
+use Rattle.doll_text.specs.Names.{is_word}
 use Rattle.doll.proofs.Views.{front_len, view_path-whole, view_path-none, view_path-last, view_path-bad, view_path-more}
 use Rattle.doll.proofs.path.is_virtual_path.Goals as goal
 

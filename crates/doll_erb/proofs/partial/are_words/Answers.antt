@@ -1,7 +1,7 @@
 use Rattle.std.proofs.Common.{rules, tests}
 use Rattle.std.proofs.lemmas.Iterator.Search.{all_from_yields_List}
 use Rattle.std.proofs.lemmas.Iterator.Splits.{YieldsList-from_slice_split}
-use Rattle.doll_expr.specs.Names.{is_word}
+use Rattle.doll_text.specs.Names.{is_word}
 use Rattle.doll_erb.specs.Partials.{is_slash}
 use Rattle.doll_erb.proofs.partial.are_words.Goals as goal
 

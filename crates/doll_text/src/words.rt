@@ -3,9 +3,30 @@
 ghost use Rattle.std.specs.Prelude.{◌≡◌, ◌<◌, ◌≤◌, true, length, map, slice_index};
 ghost use Rattle.std.specs.List.{list_all, list_any, prefix_len};
 ghost use Rattle.std.specs.Str.{bytes_eq};
-ghost use Rattle.doll_expr.specs.Names as spec;
+ghost use Rattle.doll_text.specs.Names as spec;
 
-use crate::token::Word;
+/// The words of the grammars of expressions and tags, which are no names.
+#[derive(Clone, Copy, PartialEq, Eq)]
+pub enum Word {
+    Nil,
+    True,
+    False,
+    If,
+    Elsif,
+    Else,
+    End,
+    Do,
+    Each,
+    Cache,
+    Render,
+    Partial,
+    Collection,
+    As,
+    Cached,
+    Id,
+    UpdatedAt,
+    Size,
+}
 
 const WORDS: [(&[u8], Word); 18] = [
     (b"nil", Word::Nil),

@@ -3,8 +3,8 @@ use Rattle.std.specs.Prelude.{ℕ, Bool, false, not, ◌&&◌, ◌||◌, ◌==�
 use Rattle.std.specs.Char.{is_ascii_digit}
 use Rattle.std.specs.List.{list_all, list_any}
 use Rattle.std.specs.Str.{bytes_eq}
-use Rattle.doll_expr.specs.declared.token.Word.{Word}
-use Rattle.doll_expr.specs.declared.token.Word.TheVariants as word
+use Rattle.doll_text.specs.declared.words.Word.{Word}
+use Rattle.doll_text.specs.declared.words.Word.TheVariants as word
 
 -- a lower-case letter
 abbrev pub is_lower : ℕ → Bool

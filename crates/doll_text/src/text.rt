@@ -7,7 +7,7 @@ use std::alloc::Global;
 use std::marker::Model;
 
 /// A text of a value, a template or a literal, as its bytes in UTF-8.
-#[derive(Debug, Drop)]
+#[derive(Drop)]
 pub struct Text {
     bytes: Vec<u8>,
 }
@@ -50,7 +50,7 @@ impl Text {
 }
 
 /// The name of a model, an attribute, an association, a variable or a template, as its bytes.
-#[derive(Debug, Drop)]
+#[derive(Drop)]
 pub struct Name {
     bytes: Vec<u8>,
 }
@@ -93,7 +93,7 @@ impl Name {
 }
 
 /// Bytes that need not be text, such as a page or a body.
-#[derive(Debug, Drop)]
+#[derive(Drop)]
 pub struct Bytes {
     bytes: Vec<u8>,
 }
@@ -129,7 +129,7 @@ impl Bytes {
 }
 
 /// Ids of records of one model.
-#[derive(Debug, Drop)]
+#[derive(Drop)]
 pub struct Ids {
     ids: Vec<u32>,
 }

@@ -3,7 +3,7 @@
 use std::alloc::{AllocError, AllocFailed};
 
 /// No memory was found. It may stand in place of any other answer of a call that allocates.
-#[derive(Clone, Copy, Debug, PartialEq, Eq)]
+#[derive(Clone, Copy, PartialEq, Eq)]
 pub struct Memory;
 
 impl From<AllocError> for Memory {
