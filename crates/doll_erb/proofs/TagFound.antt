@@ -28,7 +28,8 @@ use Rattle.doll_erb.specs.declared.render.Listed.{Listed}
 use Rattle.doll_erb.specs.declared.piece.TagKind.{TagKind}
 use Rattle.doll_erb.specs.declared.piece.TagKind.TheVariants as tag
 use Rattle.doll_erb.specs.Marks as front
-use Rattle.doll_erb.specs.Partials.{is_partial, last_segment, dependency_of}
+use Rattle.doll_text.specs.Segments.{last_segment}
+use Rattle.doll_erb.specs.Partials.{is_partial, dependency_of}
 use Rattle.doll_erb.specs.Tags.{finished, value_at, name_at, partial_at, ends_part, key_at, locals_from, partial_of, item_at, cached_at, item_of, listed, list_of, collection, collection_of, rendered, write_of, each_item_at, each_of, cache_of, run_by, run_of, comment_by, written, raw, run, role_of}
 use Rattle.doll_erb.specs.TagGrammar.{locals_none, NamesItem, item_named, item_unnamed, IsCached, cached_true, cached_none, Writes, writes_value, writes_partial, writes_collection, Runs, runs_if, runs_elsif, runs_else, runs_end, runs_each, runs_cache, IsTag, tag_text, tag_depends, tag_comment, tag_write, tag_raw, tag_run}
 use Rattle.doll_erb.proofs.TagTokens.{mark_first, word_first, mark_found, word_found, name_found, partial_found, Front, expr_front, value_front, plain_append}

@@ -21,7 +21,8 @@ use Rattle.doll_erb.specs.declared.role.Role.TheVariants as role
 use Rattle.doll_erb.specs.declared.role.Opening.TheVariants as opening
 use Rattle.doll_erb.specs.declared.role.Closing.TheVariants as closing
 use Rattle.doll_erb.specs.declared.piece.TagKind.{TagKind}
-use Rattle.doll_erb.specs.Partials.{is_partial, last_segment}
+use Rattle.doll_text.specs.Segments.{last_segment}
+use Rattle.doll_erb.specs.Partials.{is_partial}
 use Rattle.doll_erb.specs.Tags.{value_at, key_at, locals_from, partial_of, item_at, cached_at, item_of, listed, list_of, collection_of, rendered, write_of, each_item_at, each_of, cache_of, run_by, run_of, role_of}
 use Rattle.doll_erb.specs.TagGrammar.{NamesItem, item_named, item_unnamed, IsCached, cached_true, cached_none, Writes, writes_value, writes_partial, writes_collection, Runs, runs_if, runs_elsif, runs_else, runs_end, runs_each, runs_cache, HasTokens, IsTag, tag_text, tag_depends, tag_comment, tag_write, tag_raw, tag_run, TagsAreSentences}
 use Rattle.doll_erb.proofs.TagTokens.{is_own}

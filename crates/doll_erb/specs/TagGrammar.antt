@@ -19,7 +19,8 @@ use Rattle.doll_erb.specs.declared.role.Opening.TheVariants as opening
 use Rattle.doll_erb.specs.declared.role.Closing.TheVariants as closing
 use Rattle.doll_erb.specs.declared.piece.TagKind.{TagKind}
 use Rattle.doll_erb.specs.declared.piece.TagKind.TheVariants as tag
-use Rattle.doll_erb.specs.Partials.{is_partial, last_segment, dependency_of}
+use Rattle.doll_text.specs.Segments.{last_segment}
+use Rattle.doll_erb.specs.Partials.{is_partial, dependency_of}
 use Rattle.doll_erb.specs.Tags.{local, has_local, role_of}
 
 -- ---- keys

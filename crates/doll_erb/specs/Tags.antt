@@ -4,7 +4,7 @@ use Rattle.std.specs.List.{list_any}
 use Rattle.std.specs.Borrow.{Bor}
 use Rattle.doll_expr.specs.declared.expr.Expr.{Expr}
 use Rattle.doll_expr.specs.declared.expr.ExprFault.{ExprFault}
-use Rattle.doll_expr.specs.declared.expr.ExprFault.TheVariants.{Unexpected}
+use Rattle.doll_expr.specs.declared.expr.ExprFault.TheVariants.{Unexpected, Memory}
 use Rattle.doll_expr.specs.declared.token.Mark.TheVariants as mark
 use Rattle.doll_text.specs.declared.words.Word.TheVariants as word
 use Rattle.doll_expr.specs.declared.token.Token.{Token}
@@ -27,7 +27,8 @@ use Rattle.doll_erb.specs.declared.render.Listed.{Listed}
 use Rattle.doll_erb.specs.declared.piece.TagKind.{TagKind}
 use Rattle.doll_erb.specs.declared.piece.TagKind.TheVariants as tag
 use Rattle.doll_erb.specs.Marks.{mark_at, word_at}
-use Rattle.doll_erb.specs.Partials.{is_partial, last_segment, dependency_of}
+use Rattle.doll_text.specs.Segments.{last_segment}
+use Rattle.doll_erb.specs.Partials.{is_partial, dependency_of}
 
 -- a part of a tag, and the tokens after it
 abbrev pub Front : Type 0 → Type 0

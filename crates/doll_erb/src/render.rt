@@ -8,11 +8,11 @@ ghost use Rattle.doll_erb.specs.Tags.{ReadsTo};
 
 use crate::mark::{is_end, mark_at, name_at, partial_at, value_at, word_at};
 use crate::node::{Local, Locals, Node};
-use crate::partial::last_segment;
 use doll_expr::{
     Expr, ExprFault, Items, Mark, Name, Token, Word, fault_at, is_mark, is_name, is_word, place,
     rest_of,
 };
+use doll_text::segments::last_segment;
 use std::alloc::Global;
 
 /// More than the locals of a tag, which has 200 tokens at most and takes four for each.

@@ -10,8 +10,9 @@ use Rattle.doll_expr.specs.declared.token.Mark.{Mark}
 use Rattle.doll_text.specs.declared.words.Word.{Word}
 use Rattle.doll_expr.specs.declared.token.Token.{Token}
 use Rattle.doll_expr.specs.declared.token.TokenKind.TheVariants as kind
-use Rattle.doll_text.specs.Names.{is_lower, is_word_byte, word_of, is_name}
-use Rattle.doll_expr.specs.Tokens.{Front, decimal, question, name_from, closing, quoted, mark_of, number_from, number_at, plain_word, word_from, word_at, name_at, text_of, text_from, text_at, mark_from, front, is_space, is_dot, is_last, token, followed, tokens_from, beyond, at_most, tokens_of}
+use Rattle.doll_text.specs.Bytes.{is_lower, is_space, is_word_byte}
+use Rattle.doll_text.specs.Names.{word_of, is_name}
+use Rattle.doll_expr.specs.Tokens.{Front, decimal, question, name_from, closing, quoted, mark_of, number_from, number_at, plain_word, word_from, word_at, name_at, text_of, text_from, text_at, mark_from, front, is_dot, is_last, token, followed, tokens_from, beyond, at_most, tokens_of}
 use Rattle.doll_expr.specs.Reading.{first_kind, place}
 use Rattle.doll_expr.proofs.Shapes.{Plain}
 

@@ -9,7 +9,8 @@ use Rattle.doll_expr.specs.declared.expr.ExprFault.TheVariants.{TooDeep}
 use Rattle.doll_expr.specs.declared.token.Token.{Token}
 use Rattle.doll_expr.specs.declared.token.TokenKind.{TokenKind}
 use Rattle.doll_expr.specs.declared.token.TokenKind.TheVariants.{End, Fault}
-use Rattle.doll_expr.specs.Tokens.{is_space, is_dot, is_last, front, followed, token, tokens_from, at_most, tokens_of}
+use Rattle.doll_text.specs.Bytes.{is_space}
+use Rattle.doll_expr.specs.Tokens.{is_dot, is_last, front, followed, token, tokens_from, at_most, tokens_of}
 
 -- the bytes that still belong to the token before
 left_over : (dot : Bool) (at left : ℕ) (bytes : List ℕ) → left ≤ length bytes → tokens_from dot at left bytes ≡ tokens_from dot (at + left) 0 (drop left bytes)

@@ -16,7 +16,8 @@ use Rattle.doll_expr.specs.declared.token.Token.{Token}
 use denote.Enum.Bare.{sameb}
 use Rattle.doll_expr.specs.contracts.token.Mark.{the_type as marks_type}
 use Rattle.doll_text.specs.contracts.words.Word.{the_type as words_type}
-use Rattle.doll_text.specs.Names.{is_lower, is_word_byte, lookup, word_of, is_name}
+use Rattle.doll_text.specs.Bytes.{is_lower, is_space, is_word_byte}
+use Rattle.doll_text.specs.Names.{lookup, word_of, is_name}
 
 -- A token with the count of its bytes, or the fault of the text there.
 abbrev pub Front : Type 0
@@ -156,10 +157,6 @@ front after_dot at bytes =
     else (if slice_index bytes 0 == 64 then name_at at (drop 1 bytes)
     else (if slice_index bytes 0 == 34 || slice_index bytes 0 == 39 then text_at (slice_index bytes 0) at (drop 1 bytes)
     else mark_from at (mark_of bytes))))
-
--- white space: space, tab, `\r` and `\n`
-abbrev pub is_space : ℕ → Bool
-is_space b = b == 32 || b == 9 || b == 13 || b == 10
 
 -- whether a token is this mark; `sameb` is the kit's word for `==` on an enum whose variants hold nothing
 abbrev pub is_mark : Mark → TokenKind → Bool

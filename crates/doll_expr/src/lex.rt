@@ -4,13 +4,14 @@ ghost use Rattle.std.specs.Prelude.{◌≡◌, ◌≢◌, ◌⊎◌, ◌+◌, �
 ghost use Rattle.std.specs.Char.{is_ascii_digit};
 ghost use Rattle.std.specs.List.{prefix_len};
 ghost use Rattle.doll_text.specs.Gives.{Gives};
-ghost use Rattle.doll_text.specs.Names.{is_word_byte};
+ghost use Rattle.doll_text.specs.Bytes.{is_word_byte};
 ghost use Rattle.doll_expr.specs.Tokens as spec;
 
 use crate::expr::{ExprFault, Query};
 use crate::literal::{byte_at, closing, decimal, quoted};
 use crate::token::{Mark, Token, TokenKind};
-use doll_text::words::{is_lower, is_name, lookup, word_len, word_of};
+use doll_text::bytes::{ByteKind, is_lower, prefix_len};
+use doll_text::words::{is_name, lookup, word_of};
 use doll_text::{Items, Memory, Name};
 use std::alloc::Global;
 
@@ -57,7 +58,7 @@ pub fn tokens_of(alloc: Global, bytes: &[u8]) -> Result<Items<Token>, Memory>
     let mut rest = bytes;
     let mut left = MOST_TOKENS;
     loop {
-        let spaces = space_len(rest);
+        let spaces = prefix_len(ByteKind::Space, rest);
         at += spaces as u32;
         let (_spaces, ahead) = rest.split_at(spaces);
         if ahead.is_empty() {
@@ -92,39 +93,6 @@ pub fn tokens_of(alloc: Global, bytes: &[u8]) -> Result<Items<Token>, Memory>
         let (_token, after) = ahead.split_at(len);
         rest = after;
     }
-}
-
-/// Whether a byte is white space: a space, a tab, `\r` or `\n`.
-pub fn is_space(byte: u8) -> bool
-    ensures { result ≡ spec.is_space byte }
-{
-    byte == b' ' || byte == b'\t' || byte == b'\r' || byte == b'\n'
-}
-
-/// How much white space stands at the front.
-pub fn space_len(bytes: &[u8]) -> usize
-    ensures value { result ≡ prefix_len spec.is_space bytes.now }
-    ensures within { result ≤ length bytes.now }
-{
-    for (at, byte) in bytes.iter().enumerate() {
-        if !is_space(*byte) {
-            return at;
-        }
-    }
-    bytes.len()
-}
-
-fn digit_len(bytes: &[u8]) -> usize
-    ensures value { result ≡ prefix_len is_ascii_digit bytes.now }
-    ensures within { result ≤ length bytes.now }
-    ensures moves { 0 < length bytes.now → is_ascii_digit (slice_index bytes.now 0) ≡ true → 0 < result }
-{
-    for (at, byte) in bytes.iter().enumerate() {
-        if !byte.is_ascii_digit() {
-            return at;
-        }
-    }
-    bytes.len()
 }
 
 fn is_dot(kind: &TokenKind) -> bool
@@ -172,7 +140,7 @@ fn number_at(at: u32, bytes: &[u8]) -> Result<(TokenKind, usize), ExprFault>
     ensures within { IfOk result (λ found. (1 ≤ found.1) × (found.1 ≤ length bytes.now)) }
     ensures plain { IfOk result (λ found. spec.is_last found.0 ≡ false) }
 {
-    let (digits, _rest) = bytes.split_at(digit_len(bytes));
+    let (digits, _rest) = bytes.split_at(prefix_len(ByteKind::Digit, bytes));
     match decimal(digits) {
         Some(value) => Ok((TokenKind::Number(value), digits.len())),
         None => Err(ExprFault::NumberTooLarge { at }),
@@ -203,7 +171,7 @@ fn word_at(
     ensures within { IfOk result (λ found. (1 ≤ found.1) × (found.1 ≤ length bytes.now)) }
     ensures plain { IfOk result (λ found. spec.is_last found.0 ≡ false) }
 {
-    let (word, _rest) = bytes.split_at(word_len(bytes));
+    let (word, _rest) = bytes.split_at(prefix_len(ByteKind::Word, bytes));
     if let Some(asked) = question(after_dot, word, bytes) {
         return Ok((TokenKind::Ask(asked), word.len() + 1));
     }
@@ -223,7 +191,7 @@ fn name_at(alloc: Global, at: u32, bytes: &[u8]) -> Result<(TokenKind, usize), E
     ensures within { IfOk result (λ found. (1 ≤ found.1) × (found.1 ≤ length bytes.now + 1)) }
     ensures plain { IfOk result (λ found. spec.is_last found.0 ≡ false) }
 {
-    let (word, _rest) = bytes.split_at(word_len(bytes));
+    let (word, _rest) = bytes.split_at(prefix_len(ByteKind::Word, bytes));
     if !is_name(word) {
         return Err(ExprFault::Unexpected { at });
     }

@@ -1,18 +1,11 @@
 -- Which words are names, and which are words of the grammars. All of it is this project's own.
-use Rattle.std.specs.Prelude.{ℕ, Bool, false, not, ◌&&◌, ◌||◌, ◌==◌, nat_le, List, [], ◌∷◌, length, is_some, Option, Some, None, if◌then◌else◌, codes}
-use Rattle.std.specs.Char.{is_ascii_digit}
+use Rattle.std.specs.Prelude.{ℕ, Bool, false, not, ◌&&◌, ◌||◌, nat_le, List, [], ◌∷◌, length, is_some, Option, Some, None, if◌then◌else◌, codes}
 use Rattle.std.specs.List.{list_all, list_any}
 use Rattle.std.specs.Str.{bytes_eq}
+use Rattle.doll_text.specs.Bytes.{is_lower, is_word_byte}
+use Rattle.doll_text.specs.declared.words.TheConstants.{LONGEST_NAME}
 use Rattle.doll_text.specs.declared.words.Word.{Word}
 use Rattle.doll_text.specs.declared.words.Word.TheVariants as word
-
--- a lower-case letter
-abbrev pub is_lower : ℕ → Bool
-is_lower b = nat_le 97 b && nat_le b 122
-
--- a lower-case letter, a digit or `_`
-abbrev pub is_word_byte : ℕ → Bool
-is_word_byte b = is_lower b || is_ascii_digit b || b == 95
 
 -- a lower-case letter and word bytes after it
 abbrev pub is_word : List ℕ → Bool
@@ -47,4 +40,4 @@ is_reserved text = is_some (word_of text) || list_any (λ other. bytes_eq other 
 
 -- A name is a word of at most 40 bytes that isn't reserved.
 unfoldable pub is_name : List ℕ → Bool
-is_name text = nat_le (length text) 40 && is_word text && not (is_reserved text)
+is_name text = nat_le (length text) LONGEST_NAME && is_word text && not (is_reserved text)

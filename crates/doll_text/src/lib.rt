@@ -2,11 +2,14 @@
 //! them, and want of memory.
 #![tactic(auto)]
 
+pub mod bytes;
 pub mod copies;
 pub mod memory;
+pub mod segments;
 pub mod text;
 pub mod words;
 
+pub use bytes::{ByteKind, SLASH, is_space, prefix_len};
 pub use copies::{Copied, copy_list};
 pub use memory::Memory;
 pub use sqlite_items::{Boxed, Items};

@@ -1,9 +1,12 @@
 //! Which words are names, and which are words of the grammars.
 
-ghost use Rattle.std.specs.Prelude.{◌≡◌, ◌<◌, ◌≤◌, true, length, map, slice_index};
-ghost use Rattle.std.specs.List.{list_all, list_any, prefix_len};
+ghost use Rattle.std.specs.Prelude.{◌≡◌, map};
+ghost use Rattle.std.specs.List.{list_all, list_any};
 ghost use Rattle.std.specs.Str.{bytes_eq};
+ghost use Rattle.doll_text.specs.Bytes.{is_word_byte};
 ghost use Rattle.doll_text.specs.Names as spec;
+
+use crate::bytes::{is_lower, is_word_byte};
 
 /// The words of the grammars of expressions and tags, which are no names.
 #[derive(Clone, Copy, PartialEq, Eq)]
@@ -28,6 +31,9 @@ pub enum Word {
     Size,
 }
 
+/// The longest name, in bytes.
+const LONGEST_NAME: usize = 40;
+
 const WORDS: [(&[u8], Word); 18] = [
     (b"nil", Word::Nil),
     (b"true", Word::True),
@@ -51,13 +57,12 @@ const WORDS: [(&[u8], Word); 18] = [
 
 const OTHERS: [&[u8]; 4] = [b"and", b"or", b"not", b"in"];
 
+/// Whether a text is a name: a word of at most 40 bytes that isn't reserved.
 #[tactic(auto, unfolding(crate::specs::Names::is_name))]
-/// Whether a text is a name: a lower-case letter and letters, digits or `_` after it, at most 40 bytes in all,
-/// and no reserved word.
 pub fn is_name(text: &[u8]) -> bool
     ensures { result ≡ spec.is_name text.now }
 {
-    if text.len() > 40 {
+    if text.len() > LONGEST_NAME {
         return false;
     }
     if !is_word(text) {
@@ -66,40 +71,15 @@ pub fn is_name(text: &[u8]) -> bool
     !is_reserved(text)
 }
 
-#[tactic(auto, unfolding(crate::specs::Names::word_of, crate::specs::Names::words))]
 /// The word of the grammars that a text is.
+#[tactic(auto, unfolding(crate::specs::Names::word_of, crate::specs::Names::words))]
 pub fn word_of(text: &[u8]) -> Option<Word>
     ensures { result ≡ spec.word_of text.now }
 {
     lookup(&WORDS, text)
 }
 
-/// How many bytes at the front are letters, digits or `_`.
-pub fn word_len(bytes: &[u8]) -> usize
-    ensures value { result ≡ prefix_len spec.is_word_byte bytes.now }
-    ensures within { result ≤ length bytes.now }
-    ensures moves { 0 < length bytes.now → spec.is_word_byte (slice_index bytes.now 0) ≡ true → 0 < result }
-{
-    for (at, byte) in bytes.iter().enumerate() {
-        if !is_word_byte(*byte) {
-            return at;
-        }
-    }
-    bytes.len()
-}
-
-pub fn is_lower(byte: u8) -> bool
-    ensures { result ≡ spec.is_lower byte }
-{
-    b'a' <= byte && byte <= b'z'
-}
-
-pub fn is_word_byte(byte: u8) -> bool
-    ensures { result ≡ spec.is_word_byte byte }
-{
-    is_lower(byte) || byte.is_ascii_digit() || byte == b'_'
-}
-
+/// Whether a text is a word: a lower-case letter and letters, digits or `_` after it.
 pub fn is_word(text: &[u8]) -> bool
     ensures { result ≡ spec.is_word text.now }
 {
@@ -110,7 +90,7 @@ pub fn is_word(text: &[u8]) -> bool
 }
 
 fn are_word_bytes(bytes: &[u8]) -> bool
-    ensures { result ≡ list_all spec.is_word_byte bytes.now }
+    ensures { result ≡ list_all is_word_byte bytes.now }
 {
     bytes.iter().all(|byte| is_word_byte(*byte))
 }

@@ -12,4 +12,4 @@ returns c =
     c.only_name.ensures
     ∙ ap spec.only_name c.split_at-2.ensures.back
     ∙ sym (announced_yes c.split_at.result.1.now (sym c.if-not-starts_with.ensures.value))
-    ∙ ap spec.announced (c.split_at.ensures.back ∙ ap (λ n. drop n c.args.content.now) c.space_len.ensures.value)
+    ∙ ap spec.announced (c.split_at.ensures.back ∙ ap (λ n. drop n c.args.content.now) c.prefix_len.ensures.value)

@@ -2,11 +2,11 @@ use Rattle.std.proofs.Common.{rules, tests}
 use Rattle.std.proofs.lemmas.Iterator.Search.{all_from_yields_List}
 use Rattle.std.proofs.lemmas.Iterator.Splits.{YieldsList-from_slice_split}
 use Rattle.doll_text.specs.Names.{is_word}
-use Rattle.doll_erb.specs.Partials.{is_slash}
-use Rattle.doll_erb.proofs.partial.are_words.Goals as goal
+use Rattle.doll_text.specs.Segments.{is_slash}
+use Rattle.doll_text.proofs.segments.are_words.Goals as goal
 
 pub returns : goal.returns
 returns c =
     all_from_yields_List is_word _ _ _ c.all.ensures.ran
-    (YieldsList-from_slice_split _ is_slash c.args.name.now c.split.ensures.rest c.split.ensures.done c.split.ensures.closure (λ x b q k. search (rules, tests)))
+    (YieldsList-from_slice_split _ is_slash c.args.text.now c.split.ensures.rest c.split.ensures.done c.split.ensures.closure (λ x b q k. search (rules, tests)))
     (λ x b q k. search (rules, tests))
