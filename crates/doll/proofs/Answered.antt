@@ -7,10 +7,10 @@ use Rattle.doll_base.specs.Inputs.{read_up_to}
 use Rattle.doll_base.specs.declared.input.InputFault.TheVariants.{TooLong}
 use Rattle.doll_text.specs.declared.memory.Memory.{Memory}
 use Rattle.doll.specs.declared.reply.Reply.{Reply}
-use Rattle.doll.specs.Sites.{readings_for}
+use Rattle.doll_bundle.specs.Bundles.{bundle_of, readings_needed}
 use Rattle.doll.specs.Timed.{AnswersTimed}
 use Rattle.doll.specs.Replies.{readings_of, plain_path, plain_reply, usage, IsReply, ReadsFor}
-use Rattle.doll.proofs.Readings.{appended_none}
+use Rattle.doll_bundle.proofs.ClockReadings.{appended_none}
 
 -- words that are none of the forms are answered so, whatever the input
 pub usage_reply : (words : List (List ℕ)) (left clock : Option (List ℕ)) → plain_path words ≡ None → IsReply words left clock clock usage
@@ -41,14 +41,14 @@ input_told (Some bytes) input told = by_test (nat_lt 16777216 (length bytes)) to
     by_test false is = cc is
 
 -- an input that isn't too long needs the readings of its bundle
-readings_are : (words : List (List ℕ)) (path input : List ℕ) → plain_path words ≡ Some path → length input ≤ 16777216 → readings_for input ≡ readings_of words input
+readings_are : (words : List (List ℕ)) (path input : List ℕ) → plain_path words ≡ Some path → length input ≤ 16777216 → readings_needed (bundle_of input) ≡ readings_of words input
 readings_are words path input plain short =
     let test : nat_lt 16777216 (length input) ≡ false = grind (arith, nat_tests, short) in
     rw (plain, test) refl
 
 -- the reply to an input that was read
 pub read_reply : (words : List (List ℕ)) (path input : List ℕ) (left before after : Option (List ℕ)) (reply : Reply) → plain_path words ≡ Some path → IfSome left (λ bytes. read_up_to 16777216 bytes ≡ Ok input) → length input ≤ 16777216
-    → (readings : List ℕ) × Appended before after readings × (length readings ≤ readings_for input) × ((length readings ≡ readings_for input) × (reply ≡ plain_reply path input readings)) → IsReply words left before after reply
+    → (readings : List ℕ) × Appended before after readings × (length readings ≤ readings_needed (bundle_of input)) × ((length readings ≡ readings_needed (bundle_of input)) × (reply ≡ plain_reply path input readings)) → IsReply words left before after reply
 read_reply words path input left before after reply plain told short timed = record {
   input = input;
   readings = timed.0;
@@ -77,7 +77,7 @@ no_reading words (Some bytes) clock = record {
 
 -- the readings for an input that was read are those for its answer
 pub read_readings : (words : List (List ℕ)) (path input : List ℕ) (left before after : Option (List ℕ)) (result : Result Reply Memory) → plain_path words ≡ Some path → IfSome left (λ bytes. read_up_to 16777216 bytes ≡ Ok input) → length input ≤ 16777216
-    → AnswersTimed (readings_for input) (plain_reply path input) before after result → ReadsFor words left before after
+    → AnswersTimed (readings_needed (bundle_of input)) (plain_reply path input) before after result → ReadsFor words left before after
 read_readings words path input left before after result plain told short timed = record {
   input = input;
   readings = timed.0;

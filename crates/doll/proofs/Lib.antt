@@ -1,11 +1,3 @@
-pub mod Alone
 pub mod Answered
-pub mod Digits
-pub mod Jsons
-pub mod Keeping
 pub mod Longs
-pub mod Made
-pub mod Members
-pub mod Readings
 pub mod Timing
-pub mod Views

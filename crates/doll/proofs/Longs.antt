@@ -5,7 +5,7 @@ use Rattle.std.proofs.lemmas.List.{length-replicate}
 use Rattle.doll_base.specs.Inputs.{read_up_to}
 use Rattle.doll_base.specs.declared.input.InputFault.TheVariants.{TooLong}
 use Rattle.doll.specs.Replies.{reply_of, readings_of, plain_path, too_long, IsReply}
-use Rattle.doll.proofs.Readings.{appended_none}
+use Rattle.doll_bundle.proofs.ClockReadings.{appended_none}
 
 -- there is a list of each length
 some_long : (n : ℕ) → (input : List ℕ) × (length input ≡ n)

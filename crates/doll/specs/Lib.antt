@@ -1,9 +1,3 @@
-pub mod FirstForms
-pub mod Pasts
-pub mod Paths
-pub mod Refusals
 pub mod Replies
-pub mod Seen
-pub mod Sites
-pub mod Standing
+pub mod Statuses
 pub mod Timed

@@ -1,50 +1,41 @@
 -- What the program answers to its words and its input (this project's own).
-use Rattle.std.specs.Prelude.{ℕ, ◌≡◌, ◌≢◌, ◌≤◌, ◌⊎◌, nat_lt, List, [], ◌∷◌, ◌++◌, length, bytes_eq, Option, None, Some, Result, Ok, Err, codes, is_some, IfSome, if◌then◌else◌}
+use Rattle.std.specs.Prelude.{ℕ, ◌≡◌, ◌≤◌, nat_lt, List, [], ◌∷◌, ◌++◌, length, bytes_eq, Option, None, Some, Result, Ok, Err, codes, IfSome, if◌then◌else◌}
 use Rattle.std.specs.Option.{option_map_or}
-use Rattle.doll_schema.specs.declared.value.Val.TheVariants as val
-use Rattle.doll_table.specs.Tables.{row_of}
-use Rattle.doll_plain.specs.Direct.{direct, plain_scene}
-use Rattle.doll.specs.declared.refusal.Refusal.{Refusal}
-use Rattle.doll.specs.declared.refusal.Refusal.TheVariants as refusal
-use Rattle.doll.specs.Refusals.{refusal_line}
-use Rattle.doll.specs.Paths.{requested_id}
-use Rattle.doll.specs.declared.site.Site.{Site}
-use Rattle.doll.specs.Sites.{site_of, readings_for}
-use Rattle.doll.specs.declared.reply.Reply.{Reply}
 use Rattle.doll_base.specs.Streams.{Appended, AppendedPart}
+use Rattle.doll_bundle.specs.declared.refusal.Refusal.{Refusal}
+use Rattle.doll_bundle.specs.declared.refusal.Refusal.TheVariants as refusal
+use Rattle.doll_bundle.specs.declared.site.Site.{Site}
+use Rattle.doll_bundle.specs.Refusals.{refusal_line}
+use Rattle.doll_bundle.specs.Bundles.{Bundle, bundle_of, readings_needed, site_of}
+use Rattle.doll_bundle.specs.Sites.{page_at}
+use Rattle.doll.specs.declared.reply.Reply.{Reply}
+use Rattle.doll.specs.declared.reply.TheConstants.{LONGEST_INPUT}
+use Rattle.doll.specs.declared.status.Status.{Status}
+use Rattle.doll.specs.declared.status.Status.TheVariants as status
 
 -- a text and a line end
 abbrev pub line : List ℕ → List ℕ
 line text = text ++ 10 ∷ []
 
 abbrev pub usage : Reply
-usage = record { status = 2; text = line (codes "usage: doll plain PATH | lint | digests | replay | workload N | serve BUNDLE ADDRESS [JOURNAL]") }
+usage = record { status = status.WrongWords; text = line (codes "usage: doll plain PATH | lint | digests | replay | workload N | serve BUNDLE ADDRESS [JOURNAL]") }
 
 abbrev pub too_long : Reply
-too_long = record { status = 12; text = line (codes "too long 16777216") }
+too_long = record { status = status.TooLong; text = line (codes "too long 16777216") }
 
 abbrev pub not_built : Reply
-not_built = record { status = 4; text = line (codes "not built") }
+not_built = record { status = status.NotBuilt; text = line (codes "not built") }
 
 abbrev pub unknown : List ℕ → Reply
-unknown path = record { status = 5; text = line (codes "unknown " ++ path) }
+unknown path = record { status = status.UnknownPath; text = line (codes "unknown " ++ path) }
 
--- the record that a request names, where it lives
-abbrev pub living : Site → Option ℕ → Option ℕ
-living site None = None
-living site (Some id) = if is_some (row_of site.table site.pages.model id) then Some id else None
-
--- the page of a record: the direct rendering of the template with the record under its model's name
-abbrev pub page_of : Site → ℕ → List ℕ
-page_of site id = direct (plain_scene site.pages.schema site.table) site.pages.tree ((site.pages.owner, val.Record site.pages.model id) ∷ [])
-
--- the page of a path, where its record lives
+-- the page of a path of a site
 abbrev pub page_reply : Site → List ℕ → Reply
-page_reply site path = option_map_or (λ id. record { status = 0; text = page_of site id }) (living site (requested_id site.pages.path path)) (unknown path)
+page_reply site path = option_map_or (λ page. record { status = status.Done; text = page }) (page_at site path) (unknown path)
 
 -- a bundle that is refused, or of a form that isn't read yet
 abbrev pub refusal_reply : Refusal → Reply
-refusal_reply (refusal.Refused part number what) = record { status = 3; text = line (refusal_line part number what) }
+refusal_reply (refusal.Refused part number what) = record { status = status.BundleRefused; text = line (refusal_line part number what) }
 refusal_reply refusal.NotBuilt = not_built
 -- this never comes: no definition answers want of memory
 refusal_reply refusal.Memory = not_built
@@ -53,9 +44,15 @@ abbrev pub site_reply : Result Site Refusal → List ℕ → Reply
 site_reply (Ok site) path = page_reply site path
 site_reply (Err why) path = refusal_reply why
 
--- a page of a site that is read from the input, where the clock gives these readings
+-- the page of a path of a bundle's site, where the clock gives these readings
+abbrev pub bundle_reply : Result Bundle Refusal → List ℕ → List ℕ → Reply
+bundle_reply (Ok bundle) path readings = site_reply (site_of bundle readings) path
+bundle_reply (Err why) path readings = refusal_reply why
+
+-- the page of a path of the bundle that the input is
 abbrev pub plain_reply : List ℕ → List ℕ → List ℕ → Reply
-plain_reply path input readings = if nat_lt 16777216 (length input) then too_long else site_reply (site_of input readings) path
+plain_reply path input readings =
+    if nat_lt LONGEST_INPUT (length input) then too_long else bundle_reply (bundle_of input) path readings
 
 -- the path of the words `plain PATH`
 abbrev pub plain_path : List (List ℕ) → Option (List ℕ)
@@ -68,7 +65,8 @@ reply_of words input readings = option_map_or (λ path. plain_reply path input r
 
 -- how many readings the answer takes: one for each commit of the bundle that says no time, where it comes to its commits
 abbrev pub readings_of : List (List ℕ) → List ℕ → ℕ
-readings_of words input = option_map_or (λ path. if nat_lt 16777216 (length input) then 0 else readings_for input) (plain_path words) 0
+readings_of words input =
+    option_map_or (λ path. if nat_lt LONGEST_INPUT (length input) then 0 else readings_needed (bundle_of input)) (plain_path words) 0
 
 -- This is the answer to the input that the source had left and the readings that the clock then gave, where these are
 -- told; else it is that of some input and readings.
@@ -88,14 +86,6 @@ pub record ReadsFor (words : List (List ℕ)) (left before after : Option (List 
   pub taken : Appended before after readings
   pub count : length readings ≤ readings_of words input
 
--- Statuses other than those of a failed read, a failed write and want of memory answer the words and the input.
-abbrev pub IsAnswer : ℕ → Type 0
-IsAnswer status = (status ≢ 7) × (status ≢ 8) × (status ≢ 9)
-
--- A failed read and want of memory answer nothing.
-abbrev pub IsSilent : ℕ → Type 0
-IsSilent status = (status ≡ 7) ⊎ (status ≡ 9)
-
 -- What goes into an answer: the words, what the source has left, and the clock's readings before and after.
 pub record Asking : Type 0 where
   pub words : List (List ℕ)
@@ -107,8 +97,8 @@ abbrev pub IsReplyTo : Asking → Reply → Type 0
 IsReplyTo asking = IsReply asking.words asking.left asking.before asking.after
 
 -- The status is the reply's, and the sink holds the reply's text behind what it held.
-abbrev pub Answers : Asking → Option (List ℕ) → Option (List ℕ) → ℕ → Type 0
-Answers asking before after status = (reply : Reply) × IsReplyTo asking reply × (reply.status ≡ status) × Appended before after reply.text
+abbrev pub Answers : Asking → Option (List ℕ) → Option (List ℕ) → Status → Type 0
+Answers asking before after end = (reply : Reply) × IsReplyTo asking reply × (reply.status ≡ end) × Appended before after reply.text
 
 -- The sink holds a first part of the reply's text behind what it held.
 abbrev pub AnswersPart : Asking → Option (List ℕ) → Option (List ℕ) → Type 0

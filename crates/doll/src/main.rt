@@ -1,25 +1,21 @@
 //! The program: a site's bundle comes on standard input, and the page of a path goes to standard output.
 #![tactic(auto)]
 
-mod first_form;
-mod past;
-mod path;
-mod refusal;
 mod reply;
-mod site;
-mod standing;
+mod status;
 mod tool;
 
-use crate::tool::{NO_MEMORY, Status, run_tool};
+use crate::status::Status;
+use crate::tool::run_tool;
 use doll_base::{DirFolder, StdSink, StdSource, SysClock};
 use std::process::ExitCode;
 use std::{env, io};
 
 fn main(rt: HostRuntime) -> ExitCode {
     match status_of(&rt) {
-        Ok(status) => ExitCode::from(status),
+        Ok(status) => ExitCode::from(status.code()),
         // No other error is handed out.
-        Err(_) => ExitCode::from(NO_MEMORY),
+        Err(_) => ExitCode::from(Status::NoMemory.code()),
     }
 }
 

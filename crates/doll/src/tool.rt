@@ -4,24 +4,14 @@ ghost use Rattle.std.specs.Prelude.{◌≡◌, ◌+◌, map, string_bytes, None,
 ghost use Rattle.doll_base.specs.Faults.{Rose, KeepsCount};
 ghost use Rattle.doll_base.specs.Streams.{Appended, AppendedPart, TookAtMost};
 ghost use Rattle.doll.specs.declared.tool.Unanswered.TheVariants as unanswered;
-ghost use Rattle.doll.specs.Replies.{IsReply, ReadsFor, Asking, Answers, AnswersPart, IsAnswer, IsSilent, plain_path};
+ghost use Rattle.doll.specs.Replies.{IsReply, ReadsFor, Asking, Answers, AnswersPart, plain_path};
+ghost use Rattle.doll.specs.Statuses.{IsAnswer, IsSilent};
 
 use crate::reply::{LONGEST_INPUT, Reply, plain_path, plain_reply, too_long, usage};
+use crate::status::Status;
 use doll_base::{Clock, Folder, InputFault, Sink, Source, read_all, write_whole};
-use doll_expr::Memory;
+use doll_text::Memory;
 use std::alloc::Global;
-
-/// How the program ends: 0 where what was asked is done.
-pub type Status = u8;
-
-/// Reading the source, a folder or a connection failed.
-pub const READ_FAILED: Status = 7;
-
-/// Writing failed.
-pub const WRITE_FAILED: Status = 8;
-
-/// No memory was found.
-pub const NO_MEMORY: Status = 9;
 
 /// Why there is no reply.
 #[derive(Drop)]
@@ -48,10 +38,10 @@ fn reply_to<S: Source, C: Clock>(
     ensures reply { IfOk result (λ reply. IsReply (map string_bytes words.now) (S.left source.old) (C.readings clock.old) (C.readings clock.new) reply) }
     ensures status { IfOk result (λ reply. IsAnswer reply.status) }
     ensures failed { IsErrOf result Unanswered.Failed → Rose (S.faults source.old) (S.faults source.new) }
-    ensures unread { plain_path (map string_bytes words.now) ≡ None → (S.left source.new ≡ S.left source.old) × (S.faults source.new ≡ S.faults source.old) }
+    ensures unread { plain_path (map string_bytes words.now) ≡ None → source.new ≡ source.old }
     ensures taken { TookAtMost (LONGEST_INPUT + 1) (S.left source.old) (S.left source.new) }
-    ensures clock { IsErrOf result Unanswered.Failed → C.readings clock.new ≡ C.readings clock.old }
-    ensures unasked { plain_path (map string_bytes words.now) ≡ None → C.readings clock.new ≡ C.readings clock.old }
+    ensures clock { IsErrOf result Unanswered.Failed → clock.new ≡ clock.old }
+    ensures unasked { plain_path (map string_bytes words.now) ≡ None → clock.new ≡ clock.old }
     ensures reads { ReadsFor (map string_bytes words.now) (S.left source.old) (C.readings clock.old) (C.readings clock.new) }
     ensures count { KeepsCount (S.faults source.old) (S.faults source.new) }
 {
@@ -80,30 +70,30 @@ pub fn run_tool<F: Folder, S: Source, K: Sink, C: Clock>(
     // clock's readings.
     ensures answer { IsAnswer result → Answers (record { words = map string_bytes words.now; left = S.left source.old; before = C.readings clock.old; after = C.readings clock.new }) (K.held sink.old) (K.held sink.new) result }
     // It doesn't give up by itself.
-    ensures read_failed { result ≡ READ_FAILED → Rose (S.faults source.old) (S.faults source.new) }
-    ensures write_failed { result ≡ WRITE_FAILED → Rose (K.faults sink.old) (K.faults sink.new) × AnswersPart (record { words = map string_bytes words.now; left = S.left source.old; before = C.readings clock.old; after = C.readings clock.new }) (K.held sink.old) (K.held sink.new) }
+    ensures read_failed { result ≡ Status.ReadFailed → Rose (S.faults source.old) (S.faults source.new) }
+    ensures write_failed { result ≡ Status.WriteFailed → Rose (K.faults sink.old) (K.faults sink.new) × AnswersPart (record { words = map string_bytes words.now; left = S.left source.old; before = C.readings clock.old; after = C.readings clock.new }) (K.held sink.old) (K.held sink.new) }
     // Words that are none of the forms are told before anything is read.
-    ensures unread { plain_path (map string_bytes words.now) ≡ None → (S.left source.new ≡ S.left source.old) × (S.faults source.new ≡ S.faults source.old) }
+    ensures unread { plain_path (map string_bytes words.now) ≡ None → source.new ≡ source.old }
     // Whatever the answer, no more is read than tells that the input is too long.
     ensures taken { TookAtMost (LONGEST_INPUT + 1) (S.left source.old) (S.left source.new) }
     // Without an answer nothing is written.
-    ensures silent { IsSilent result → K.held sink.new ≡ K.held sink.old }
+    ensures silent { IsSilent result → sink.new ≡ sink.old }
     // Where the input wasn't read the clock isn't either.
-    ensures clock { result ≡ READ_FAILED → C.readings clock.new ≡ C.readings clock.old }
+    ensures clock { result ≡ Status.ReadFailed → clock.new ≡ clock.old }
     // Nor is it for words that are none of the forms.
-    ensures unasked { plain_path (map string_bytes words.now) ≡ None → C.readings clock.new ≡ C.readings clock.old }
+    ensures unasked { plain_path (map string_bytes words.now) ≡ None → clock.new ≡ clock.old }
     // Whatever the answer, it is read at most once for each commit of the bundle that says no time.
     ensures reads { ReadsFor (map string_bytes words.now) (S.left source.old) (C.readings clock.old) (C.readings clock.new) }
     // The folder isn't asked yet.
-    ensures folder { F.faults folder.new ≡ F.faults folder.old }
+    ensures folder { folder.new ≡ folder.old }
 {
     let reply = match reply_to(alloc, words, source, clock) {
         Ok(reply) => reply,
-        Err(Unanswered::Failed) => return READ_FAILED,
-        Err(Unanswered::Memory) => return NO_MEMORY,
+        Err(Unanswered::Failed) => return Status::ReadFailed,
+        Err(Unanswered::Memory) => return Status::NoMemory,
     };
     match write_whole(sink, reply.text.as_slice()) {
         Ok(()) => reply.status,
-        Err(_) => WRITE_FAILED,
+        Err(_) => Status::WriteFailed,
     }
 }

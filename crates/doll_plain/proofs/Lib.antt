@@ -1,3 +1,4 @@
+pub mod Alone
 pub mod Parts
 pub mod Choices
 pub mod Depths

@@ -3,5 +3,7 @@
 
 mod binding;
 mod render;
+mod standing;
 
 pub use render::page;
+pub use standing::tree_alone;

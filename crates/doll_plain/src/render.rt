@@ -1,9 +1,10 @@
 //! Rendering a tree with no cache.
 
-ghost use Rattle.std.specs.Prelude.{◌≡◌, ◌++◌, IfOk, OnOk};
+ghost use Rattle.std.specs.Prelude.{◌≡◌, ◌++◌, true, IfOk, OnOk};
 ghost use Rattle.doll_table.specs.Fits.{Fits};
 ghost use Rattle.doll_eval.specs.Living.{AreLiving};
 ghost use Rattle.doll_plain.specs.Direct.{direct, written, plain_scene};
+ghost use Rattle.doll_plain.specs.Standing.{tree_alone};
 
 use crate::binding::{Records, bind, holds, items, unbind};
 use doll_erb::{Node, Tree};
@@ -13,9 +14,9 @@ use doll_schema::{Schema, Vars};
 use doll_table::Rows;
 use std::alloc::Global;
 
-/// The page that a tree makes with these variables: no cache is read or written, and a cached block is its body. Partials write
-/// nothing here, so a tree that names one is the caller's to keep away (the program answers `not built`). The variables must
-/// live in the table of `rows`, which must fit the schema.
+/// The page that a tree makes with these variables: no cache is read or written, and a cached block is its body. The tree must
+/// name no partial (`tree_alone` tells), since no partials are read yet. The variables must live in the table of `rows`, which
+/// must fit the schema.
 pub fn page<R: Rows>(
     alloc: Global,
     tree: &Tree,
@@ -25,6 +26,7 @@ pub fn page<R: Rows>(
 ) -> Result<Bytes, Memory>
     requires fits { Fits schema.now (R.table rows.old) }
     requires living { AreLiving (R.table rows.old) vars }
+    requires alone { tree_alone tree.now ≡ true }
     ensures page { IfOk result (λ bytes. bytes ≡ direct (plain_scene schema.now (R.table rows.old)) tree.now vars) }
     ensures table { R.table rows.new ≡ R.table rows.old }
 {

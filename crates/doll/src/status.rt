@@ -1,0 +1,46 @@
+//! How the program ends.
+
+ghost use Rattle.std.specs.Prelude.{◌≡◌};
+ghost use Rattle.doll.specs.Statuses.{status_code};
+
+/// How the program ends.
+#[derive(Clone, Copy, PartialEq, Eq)]
+pub enum Status {
+    /// What was asked is done.
+    Done,
+    /// The words are none of the forms.
+    WrongWords,
+    /// The bundle is refused.
+    BundleRefused,
+    /// The bundle is of a form, or its template of a kind, that isn't read yet.
+    NotBuilt,
+    /// No route has the path, or its record isn't there.
+    UnknownPath,
+    /// Reading the source failed.
+    ReadFailed,
+    /// Writing failed.
+    WriteFailed,
+    /// No memory was found.
+    NoMemory,
+    /// The input is too long.
+    TooLong,
+}
+
+impl Status {
+    /// The status that the process ends with.
+    pub fn code(self) -> u8
+        ensures { result ≡ status_code self }
+    {
+        match self {
+            Status::Done => 0,
+            Status::WrongWords => 2,
+            Status::BundleRefused => 3,
+            Status::NotBuilt => 4,
+            Status::UnknownPath => 5,
+            Status::ReadFailed => 7,
+            Status::WriteFailed => 8,
+            Status::NoMemory => 9,
+            Status::TooLong => 12,
+        }
+    }
+}
