@@ -19,7 +19,7 @@ use Rattle.doll_commit.specs.declared.fault.Why.TheVariants as why
 use Rattle.doll_commit.specs.Records.{Ref, is_ref, has}
 use Rattle.doll_commit.specs.Given.{Given}
 use Rattle.doll_commit.specs.Removed.{removed_with, is_restricted, without_rows}
-use Rattle.doll_commit.specs.Changes.{Made, model_named, living, created_row, updated_row, create, update, destroy_all, destroy, touch, made}
+use Rattle.doll_commit.specs.Changes.{Made, model_of, living, created_row, updated_row, create, update, destroy_all, destroy, touch, made}
 use Rattle.doll_commit.specs.Commits.{row_touches, touch_parents, touched_at_once, Course, after_change, or_refused, all_made}
 use Rattle.doll_commit.proofs.Closures.{has_left, has_right, has_next}
 
@@ -101,10 +101,10 @@ touch_leaves table ref = then_made table (living table ref) (λ old. Ok (record 
 
 -- each change leaves the rows of the records that it didn't change
 pub made_leaves : (table : TableMap) (schema : Schema) (one : Change) (m : Made) → made table schema one ≡ Ok m → Leaves table m
-made_leaves table schema (change.Create name given) = then_made table (model_named schema name) (create table schema given) (create_leaves table schema given)
-made_leaves table schema (change.Update name id given) = then_made table (model_named schema name) (λ m. update table schema given (m, id)) (λ m. update_leaves table schema given (m, id))
-made_leaves table schema (change.Destroy name id) = then_made table (model_named schema name) (λ m. destroy table schema (m, id)) (λ m. destroy_leaves table schema (m, id))
-made_leaves table schema (change.Touch name id) = then_made table (model_named schema name) (λ m. touch table (m, id)) (λ m. touch_leaves table (m, id))
+made_leaves table schema (change.Create name given) = then_made table (model_of schema name) (create table schema given) (create_leaves table schema given)
+made_leaves table schema (change.Update name id given) = then_made table (model_of schema name) (λ m. update table schema given (m, id)) (λ m. update_leaves table schema given (m, id))
+made_leaves table schema (change.Destroy name id) = then_made table (model_of schema name) (λ m. destroy table schema (m, id)) (λ m. destroy_leaves table schema (m, id))
+made_leaves table schema (change.Touch name id) = then_made table (model_of schema name) (λ m. touch table (m, id)) (λ m. touch_leaves table (m, id))
 
 -- a record's touch parents are told by its row
 pub touch_parents_same : (a b : TableMap) (schema : Schema) (r : Ref) → row_of a r.0 r.1 ≡ row_of b r.0 r.1 → touch_parents a schema r ≡ touch_parents b schema r

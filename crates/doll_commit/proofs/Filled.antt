@@ -18,11 +18,13 @@ use Rattle.doll_schema.specs.declared.model.BelongsTo.{BelongsTo}
 use Rattle.doll_schema.specs.declared.model.Model.{Model}
 use Rattle.doll_schema.specs.declared.model.Schema.{Schema}
 use Rattle.doll_table.specs.Tables.{Extent, TableMap, row_of, next_of, put_row, put_next}
-use Rattle.doll_table.specs.Fits.{Fits, RowFits, has_kind}
+use Rattle.doll_schema.specs.Lookups.{key_name}
+use Rattle.doll_schema.specs.Values.{has_kind}
+use Rattle.doll_table.specs.Fits.{Fits, RowFits}
 use Rattle.doll_table.proofs.Growing.{row_of_put, next_of_put, row_of_next, next_of_next, length_stays, fits_more, put_fits, next_fits}
 use Rattle.doll_commit.specs.declared.fault.Why.{Why}
 use Rattle.doll_commit.specs.declared.fault.Why.TheVariants as why
-use Rattle.doll_commit.specs.Given.{Given, value_given, key_name, id_of_int, key_of, value_fault, attribute_fault, key_fault, first_fault, is_known, pair_fault, given_fault}
+use Rattle.doll_commit.specs.Given.{Given, value_given, id_of_int, key_of, value_fault, attribute_fault, key_fault, first_fault, is_known, pair_fault, given_fault}
 use Rattle.doll_commit.specs.Rows.{blank_row, value_after, key_after, row_after}
 use Rattle.doll_commit.proofs.Alike.{same_table}
 
@@ -85,9 +87,9 @@ given_kind table model given at a v free here is =
     by_kind {k} false e h = absurd (none-some why.WrongKind (sym (ap (λ t. cond t None (Some why.WrongKind)) (sym e) ∙ h)))
 
 -- and the one given to a foreign key names a living row
-given_key : (table : TableMap) (model : Model) (given : Given) (at : ℕ) (b : BelongsTo) (v : Value) (id : ℕ) → given_fault table model given ≡ None → slice_get model.belongs_to at ≡ Some b → value_given given (key_name b) ≡ Some v → key_of v ≡ Some id → IsSome (row_of table b.model id)
+given_key : (table : TableMap) (model : Model) (given : Given) (at : ℕ) (b : BelongsTo) (v : Value) (id : ℕ) → given_fault table model given ≡ None → slice_get model.belongs_to at ≡ Some b → value_given given (key_name b.name) ≡ Some v → key_of v ≡ Some id → IsSome (row_of table b.model id)
 given_key table model given at b v id free here is key =
-    let pair = given_pair table model given (key_name b) v free is in
+    let pair = given_pair table model given (key_name b.name) v free is in
     of_value v key
     (ap (value_fault table b) (sym pair.3)
     ∙ (ap (λ t. cond t (value_fault table b pair.0.1) None) (sym pair.2)
@@ -123,7 +125,7 @@ row_after_fits table model given old free fits = record {
   kinds = λ at a v here is. let found = mapped_at (value_after given) model.attributes old.values at a v here is in kind_at at a found.0 v here found.1 (value_given given a.name) refl found.2;
   as_many_parents = as_many (key_after given) model.belongs_to old.parents fits.as_many_parents;
   parents = λ at b id here is. let found = mapped_at (key_after given) model.belongs_to old.parents at b (Some id) here (inner (slice_get (map (key_after given) (zip model.belongs_to old.parents)) at) id is) in
-      key_at at b id found.0 here found.1 (value_given given (key_name b)) refl found.2;
+      key_at at b id found.0 here found.1 (value_given given (key_name b.name)) refl found.2;
 }
   where
     inner : (o : Option (Option ℕ)) (id : ℕ) → option_and_then (λ k. k) o ≡ Some id → o ≡ Some (Some id)
@@ -134,7 +136,7 @@ row_after_fits table model given old free fits = record {
     kind_at at a w v here was None e is = ap (has_kind a.kind) (sym is) ∙ fits.kinds at a w here was
     kind_at at a w v here was (Some u) e is = ap (has_kind a.kind) (sym is) ∙ given_kind table model given at a u free here e
 
-    key_at : (at : ℕ) (b : BelongsTo) (id : ℕ) (k : Option ℕ) → slice_get model.belongs_to at ≡ Some b → slice_get old.parents at ≡ Some k → (o : Option Value) → value_given given (key_name b) ≡ o → option_map_or key_of o k ≡ Some id → IsSome (row_of table b.model id)
+    key_at : (at : ℕ) (b : BelongsTo) (id : ℕ) (k : Option ℕ) → slice_get model.belongs_to at ≡ Some b → slice_get old.parents at ≡ Some k → (o : Option Value) → value_given given (key_name b.name) ≡ o → option_map_or key_of o k ≡ Some id → IsSome (row_of table b.model id)
     key_at at b id k here was None e is = fits.parents at b id here (ap (option_and_then (λ j. j)) was ∙ is)
     key_at at b id k here was (Some u) e is = given_key table model given at b u id free here e is
 

@@ -4,7 +4,6 @@ pub mod Courses
 pub mod Filled
 pub mod Finished
 pub mod Gone
-pub mod Keys
 pub mod Making
 pub mod Members
 pub mod Moments

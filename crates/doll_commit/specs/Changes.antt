@@ -1,10 +1,11 @@
 -- One change: the table after it and the records that it changed, or why it is refused (this project's own).
-use Rattle.std.specs.Prelude.{ℕ, ◌+◌, ◌==◌, List, [], ◌∷◌, bytes_eq, position, slice_get, Option, None, Some, Result, Ok, Err, if◌then◌else◌}
+use Rattle.std.specs.Prelude.{ℕ, ◌+◌, ◌==◌, List, [], ◌∷◌, slice_get, Option, None, Some, Result, Ok, Err, if◌then◌else◌}
 use Rattle.std.specs.Option.{option_map_or, ok_or}
 use Rattle.doll_text.specs.Steps.{◌>>=◌}
 use Rattle.doll_schema.specs.declared.model.Model.{Model}
 use Rattle.doll_schema.specs.declared.model.Schema.{Schema}
 use Rattle.doll_schema.specs.declared.value.Row.{Row}
+use Rattle.doll_schema.specs.Lookups.{model_named}
 use Rattle.doll_journal.specs.declared.change.Change.{Change}
 use Rattle.doll_journal.specs.declared.change.Change.TheVariants as change
 use Rattle.doll_table.specs.Tables.{TableMap, row_of, next_of, put_row, put_next}
@@ -23,8 +24,8 @@ pub record Made : Type 0 where
   pub created : Option ℕ
 
 -- the number of the model that has a name
-abbrev pub model_named : Schema → List ℕ → Result ℕ Why
-model_named schema name = ok_or (position (λ (m : Model). bytes_eq m.name name) schema.models) why.UnknownModel
+abbrev pub model_of : Schema → List ℕ → Result ℕ Why
+model_of schema name = ok_or (model_named schema name) why.UnknownModel
 
 -- a living row
 abbrev pub living : TableMap → Ref → Result Row Why
@@ -76,7 +77,7 @@ touch table ref = living table ref >>= λ old. Ok (record { table = table; chang
 -- What a change makes of a table, or why it isn't made. The name of its model comes first, so that of an unknown model
 -- nothing else is told.
 abbrev pub made : TableMap → Schema → Change → Result Made Why
-made table schema (change.Create name given) = model_named schema name >>= create table schema given
-made table schema (change.Update name id given) = model_named schema name >>= λ m. update table schema given (m, id)
-made table schema (change.Destroy name id) = model_named schema name >>= λ m. destroy table schema (m, id)
-made table schema (change.Touch name id) = model_named schema name >>= λ m. touch table (m, id)
+made table schema (change.Create name given) = model_of schema name >>= create table schema given
+made table schema (change.Update name id given) = model_of schema name >>= λ m. update table schema given (m, id)
+made table schema (change.Destroy name id) = model_of schema name >>= λ m. destroy table schema (m, id)
+made table schema (change.Touch name id) = model_of schema name >>= λ m. touch table (m, id)

@@ -1,6 +1,6 @@
 -- The values that a change gives to attributes and foreign keys, by their names (this project's own).
-use Rattle.std.specs.Prelude.{ℕ, ◌^◌, ℤ, pos, negsuc, nat_lt, Bool, false, ◌||◌, List, [], ◌∷◌, ◌++◌, codes, reverse, bytes_eq, is_some, Option, None, Some, if◌then◌else◌}
-use Rattle.std.specs.List.{find, list_any}
+use Rattle.std.specs.Prelude.{ℕ, ◌^◌, ℤ, pos, negsuc, nat_lt, Bool, false, ◌||◌, List, [], ◌∷◌, reverse, bytes_eq, is_some, Option, None, Some, if◌then◌else◌}
+use Rattle.std.specs.List.{find}
 use Rattle.std.specs.Option.{option_map, option_map_or}
 use Rattle.doll_schema.specs.declared.model.Attribute.{Attribute}
 use Rattle.doll_schema.specs.declared.model.BelongsTo.{BelongsTo}
@@ -8,7 +8,8 @@ use Rattle.doll_schema.specs.declared.model.Model.{Model}
 use Rattle.doll_schema.specs.declared.value.Value.{Value}
 use Rattle.doll_schema.specs.declared.value.Value.TheVariants as value
 use Rattle.doll_table.specs.Tables.{TableMap, row_of}
-use Rattle.doll_table.specs.Fits.{has_kind}
+use Rattle.doll_schema.specs.Lookups.{key_name, attribute_named, key_named}
+use Rattle.doll_schema.specs.Values.{has_kind}
 use Rattle.doll_commit.specs.declared.fault.Why.{Why}
 use Rattle.doll_commit.specs.declared.fault.Why.TheVariants as why
 
@@ -19,10 +20,6 @@ Given = List (List ℕ × Value)
 -- the last value that a name is given, if it is given any
 abbrev pub value_given : Given → List ℕ → Option Value
 value_given given name = option_map (λ (pair : List ℕ × Value). pair.1) (find (λ (pair : List ℕ × Value). bytes_eq name pair.0) (reverse given))
-
--- the name of the foreign key of an association to a parent
-abbrev pub key_name : BelongsTo → List ℕ
-key_name b = b.name ++ codes "_id"
 
 -- the id that a whole number is; ids have 32 bits
 abbrev pub id_of_int : ℤ → Option ℕ
@@ -45,7 +42,7 @@ abbrev pub attribute_fault : List ℕ × Value → Attribute → Option Why
 attribute_fault pair a = if bytes_eq a.name pair.0 then if has_kind a.kind pair.1 then None else Some why.WrongKind else None
 
 abbrev pub key_fault : TableMap → List ℕ × Value → BelongsTo → Option Why
-key_fault table pair b = if bytes_eq (key_name b) pair.0 then value_fault table b pair.1 else None
+key_fault table pair b = if bytes_eq (key_name b.name) pair.0 then value_fault table b pair.1 else None
 
 -- the first fault, if there is one, else the second
 abbrev pub first_of : Option Why → Option Why → Option Why
@@ -58,7 +55,7 @@ first_fault fault (x ∷ xs) = first_of (fault x) (first_fault fault xs)
 
 -- whether a name is an attribute's or a foreign key's
 abbrev pub is_known : Model → List ℕ → Bool
-is_known model name = list_any (λ (a : Attribute). bytes_eq a.name name) model.attributes || list_any (λ (b : BelongsTo). bytes_eq (key_name b) name) model.belongs_to
+is_known model name = is_some (attribute_named model name) || is_some (key_named model name)
 
 -- what is wrong with a given value: its name is neither an attribute's nor a foreign key's, or it isn't a value for that
 abbrev pub pair_fault : TableMap → Model → List ℕ × Value → Option Why

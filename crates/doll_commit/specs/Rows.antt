@@ -8,7 +8,8 @@ use Rattle.doll_schema.specs.declared.model.Model.{Model}
 use Rattle.doll_schema.specs.declared.value.Value.{Value}
 use Rattle.doll_schema.specs.declared.value.Value.TheVariants as value
 use Rattle.doll_schema.specs.declared.value.Row.{Row}
-use Rattle.doll_commit.specs.Given.{Given, value_given, key_name, key_of}
+use Rattle.doll_schema.specs.Lookups.{key_name}
+use Rattle.doll_commit.specs.Given.{Given, value_given, key_of}
 
 -- a row before its creation: all nil
 abbrev pub blank_row : Model → Row
@@ -24,7 +25,7 @@ value_after given pair = option_map_or (λ v. v) (value_given given pair.0.name)
 
 -- a foreign key: the one given, else the old one
 abbrev pub key_after : Given → BelongsTo × Option ℕ → Option ℕ
-key_after given pair = option_map_or key_of (value_given given (key_name pair.0)) pair.1
+key_after given pair = option_map_or key_of (value_given given (key_name pair.0.name)) pair.1
 
 -- a row with the values given
 abbrev pub row_after : Model → Given → Row → Row

@@ -13,10 +13,10 @@ use crate::course::Course;
 use crate::fault::{ChangeFault, CommitFault, Why};
 use crate::touched::finish;
 use crate::walk::Refs;
-use doll_text::Ids;
 use doll_journal::{Change, Commit};
 use doll_schema::Schema;
 use doll_table::Table;
+use doll_text::Ids;
 use std::alloc::Global;
 
 /// How many changes a commit may have.

@@ -1,8 +1,7 @@
 //! One change.
 
-ghost use Rattle.std.specs.Prelude.{◌≡◌, ◌<◌, length, position, slice_get, bytes_eq, is_some, IfOk, OnOk};
+ghost use Rattle.std.specs.Prelude.{◌≡◌, ◌<◌, length, slice_get, IfOk, OnOk};
 ghost use Rattle.doll_schema.specs.declared.model.Model.{Model};
-ghost use Rattle.doll_table.specs.Tables.{row_of};
 ghost use Rattle.doll_table.specs.Fits.{Fits, RowFits};
 ghost use Rattle.doll_commit.specs.Changes as spec;
 ghost use Rattle.doll_commit.specs.Answers.{Answers, GoesOn, seen};
@@ -10,34 +9,24 @@ ghost use Rattle.doll_commit.specs.Answers.{Answers, GoesOn, seen};
 use crate::course::Course;
 use crate::fault::{ChangeFault, Why};
 use crate::given::given_fault;
-use crate::removal::{is_restricted, remove_all, removed_with, short};
+use crate::removal::{is_restricted, remove_all, removed_with};
 use crate::rows::{blank_row, lacks, row_after};
-use crate::walk::Ref;
-use doll_text::{Memory, Name};
+use crate::walk::{Ref, lives};
 use doll_journal::Change;
 use doll_schema::{Model, Row, Schema, Value};
 use doll_table::Table;
+use doll_text::{Memory, Name};
 use std::alloc::Global;
 
 /// The number of the model that has a name.
-fn model_named(schema: &Schema, name: &[u8]) -> Result<u16, ChangeFault>
-    ensures exact { Answers (spec.model_named schema.now name.now) result }
+fn model_of(schema: &Schema, name: &[u8]) -> Result<u16, ChangeFault>
+    ensures exact { Answers (spec.model_of schema.now name.now) result }
     ensures within { IfOk result (λ m. m < length schema.now.models) }
 {
-    match model_at(schema, name) {
-        Some(number) => Ok(short(number)?),
+    match schema.model_named(name) {
+        Some(number) => Ok(number),
         None => Err(ChangeFault::Refused(Why::UnknownModel)),
     }
-}
-
-fn model_at(schema: &Schema, name: &[u8]) -> Option<usize>
-    ensures { result ≡ position (λ (m : Model). bytes_eq m.name name.now) schema.now.models }
-{
-    schema
-        .models
-        .as_slice()
-        .iter()
-        .position(|m| m.name.as_bytes() == name)
 }
 
 /// A row with the values given, if these are values for it and leave nothing nil that may not be.
@@ -72,7 +61,7 @@ fn created_row(
     ensures exact { Answers (spec.created_row table.now schema.now given.now model) result }
     ensures fits { (m : Model) → slice_get schema.now.models model ≡ Some m → IfOk result (λ row. RowFits table.now m row) }
 {
-    let Some(model) = schema.models.get(model as usize) else {
+    let Some(model) = schema.model(model) else {
         return Err(ChangeFault::Refused(Why::UnknownModel));
     };
     let blank = blank_row(alloc, model)?;
@@ -94,7 +83,7 @@ fn updated_row(
     let Some(old) = table.row(one.0, one.1) else {
         return Err(ChangeFault::Refused(Why::MissingRow));
     };
-    let Some(model) = schema.models.get(one.0 as usize) else {
+    let Some(model) = schema.model(one.0) else {
         return Err(ChangeFault::Refused(Why::UnknownModel));
     };
     filled(alloc, table, model, given, old)
@@ -144,12 +133,6 @@ fn update(
     Ok(())
 }
 
-fn lives(table: &Table, one: Ref) -> bool
-    ensures { result ≡ is_some (row_of table.now one.0 one.1) }
-{
-    table.row(one.0, one.1).is_some()
-}
-
 fn touch(schema: &Schema, course: &mut Course, one: Ref) -> Result<(), ChangeFault>
     requires fits { Fits schema.now course.old.table }
     ensures exact { GoesOn schema.now (seen course.old) (spec.touch course.old.table one) (seen course.new) result }
@@ -172,7 +155,7 @@ fn destroy(alloc: Global, schema: &Schema, course: &mut Course, one: Ref) -> Res
         return Err(ChangeFault::Refused(Why::MissingRow));
     }
     let removed = removed_with(alloc, &course.table, schema, one)?;
-    if is_restricted(&course.table, schema, &removed)? {
+    if is_restricted(&course.table, schema, &removed) {
         return Err(ChangeFault::Refused(Why::Restricted));
     }
     course.note_all(schema, removed.as_slice())?;
@@ -193,19 +176,19 @@ pub fn make_change(
 {
     match change {
         Change::Create { model, values } => {
-            let model = model_named(schema, model.as_bytes())?;
+            let model = model_of(schema, model.as_bytes())?;
             create(alloc, schema, course, values.as_slice(), model)
         }
         Change::Update { model, id, values } => {
-            let model = model_named(schema, model.as_bytes())?;
+            let model = model_of(schema, model.as_bytes())?;
             update(alloc, schema, course, values.as_slice(), (model, *id))
         }
         Change::Destroy { model, id } => {
-            let model = model_named(schema, model.as_bytes())?;
+            let model = model_of(schema, model.as_bytes())?;
             destroy(alloc, schema, course, (model, *id))
         }
         Change::Touch { model, id } => {
-            let model = model_named(schema, model.as_bytes())?;
+            let model = model_of(schema, model.as_bytes())?;
             touch(schema, course, (model, *id))
         }
     }

@@ -7,9 +7,9 @@ ghost use Rattle.doll_commit.specs.Commits.{touch_parents};
 
 use crate::touched::{add_all_touch_parents, add_touch_parents};
 use crate::walk::{Ref, Refs};
-use doll_text::{Ids, Memory};
 use doll_schema::Schema;
 use doll_table::Table;
+use doll_text::{Ids, Memory};
 
 /// The table after the changes so far, the records that they touched at once, and the ids that they created.
 #[derive(Drop)]

@@ -1,20 +1,17 @@
 //! The values that a change gives to attributes and foreign keys.
 
 ghost use Rattle.std.specs.Prelude.{◌≡◌, ℕ, List, bytes_eq, is_some, false, reverse, find, if◌then◌else◌};
-ghost use Rattle.std.specs.List.{list_any};
 ghost use Rattle.std.specs.Option.{option_copied, option_map_or};
-ghost use Rattle.doll_schema.specs.declared.model.Attribute.{Attribute};
-ghost use Rattle.doll_schema.specs.declared.model.BelongsTo.{BelongsTo};
 ghost use Rattle.doll_schema.specs.declared.value.Value.{Value};
 ghost use Rattle.doll_table.specs.Tables.{row_of};
-ghost use Rattle.doll_table.specs.Fits.{has_kind};
 ghost use Rattle.doll_commit.specs.Given as spec;
-ghost use Rattle.doll_commit.specs.Given.{key_name};
+ghost use Rattle.doll_schema.specs.Lookups.{key_name};
 
 use crate::fault::Why;
-use doll_text::Name;
-use doll_schema::{Attribute, BelongsTo, Kind, Model, Value};
+use crate::walk::lives;
+use doll_schema::{Attribute, BelongsTo, Model, Value};
 use doll_table::Table;
+use doll_text::Name;
 
 /// The last value that a name is given, if it is given any.
 pub fn value_given<'a>(given: &'a [(Name, Value)], name: &[u8]) -> Option<&'a Value>
@@ -32,7 +29,7 @@ fn last_given<'a>(given: &'a [(Name, Value)], name: &[u8]) -> Option<&'a (Name, 
 
 /// The last value that the foreign key of an association is given.
 pub fn key_given<'a>(given: &'a [(Name, Value)], association: &BelongsTo) -> Option<&'a Value>
-    ensures { option_copied result ≡ spec.value_given given.now (key_name association.now) }
+    ensures { option_copied result ≡ spec.value_given given.now (key_name association.now.name) }
 {
     let pair = last_for_key(given, association)?;
     Some(&pair.1)
@@ -42,27 +39,12 @@ fn last_for_key<'a>(
     given: &'a [(Name, Value)],
     association: &BelongsTo,
 ) -> Option<&'a (Name, Value)>
-    ensures { option_copied result ≡ find (λ (pair : List ℕ × Value). bytes_eq (key_name association.now) pair.0) (reverse given.now) }
+    ensures { option_copied result ≡ find (λ (pair : List ℕ × Value). bytes_eq (key_name association.now.name) pair.0) (reverse given.now) }
 {
     given
         .iter()
         .rev()
-        .find(|pair| is_key_of(association, pair.0.as_bytes()))
-}
-
-/// Whether a name is an association's with `_id` after it.
-#[tactic(auto, using(crate::proofs::Keys::suffix_apart))]
-fn is_key_of(association: &BelongsTo, name: &[u8]) -> bool
-    ensures { result ≡ bytes_eq (key_name association.now) name.now }
-{
-    if name.len() < 3 {
-        return false;
-    }
-    let at = name.len() - 3;
-    if &name[..at] != association.name.as_bytes() {
-        return false;
-    }
-    &name[at..] == b"_id".as_slice()
+        .find(|pair| association.has_key(pair.0.as_bytes()))
 }
 
 /// The first fault of the values given, in order.
@@ -94,19 +76,7 @@ fn pair_fault(table: &Table, model: &Model, name: &[u8], value: &Value) -> Optio
 fn is_known(model: &Model, name: &[u8]) -> bool
     ensures { result ≡ spec.is_known model.now name.now }
 {
-    is_attribute(model.attributes.as_slice(), name) || is_key(model.belongs_to.as_slice(), name)
-}
-
-fn is_attribute(attributes: &[Attribute], name: &[u8]) -> bool
-    ensures { result ≡ list_any (λ (a : Attribute). bytes_eq a.name name.now) attributes.now }
-{
-    attributes.iter().any(|a| a.name.as_bytes() == name)
-}
-
-fn is_key(associations: &[BelongsTo], name: &[u8]) -> bool
-    ensures { result ≡ list_any (λ (b : BelongsTo). bytes_eq (key_name b) name.now) associations.now }
-{
-    associations.iter().any(|b| is_key_of(b, name))
+    model.attribute_named(name).is_some() || model.key_named(name).is_some()
 }
 
 fn attributes_fault(attributes: &[Attribute], name: &[u8], value: &Value) -> Option<Why>
@@ -124,7 +94,7 @@ fn attributes_fault(attributes: &[Attribute], name: &[u8], value: &Value) -> Opt
 fn attribute_fault(attribute: &Attribute, name: &[u8], value: &Value) -> Option<Why>
     ensures { result ≡ spec.attribute_fault (name.now, value.now) attribute.now }
 {
-    if attribute.name.as_bytes() != name || has_kind(attribute.kind, value) {
+    if attribute.name.as_bytes() != name || attribute.kind.has(value) {
         None
     } else {
         Some(Why::WrongKind)
@@ -146,23 +116,10 @@ fn keys_fault(table: &Table, associations: &[BelongsTo], name: &[u8], value: &Va
 fn key_fault(table: &Table, association: &BelongsTo, name: &[u8], value: &Value) -> Option<Why>
     ensures { result ≡ spec.key_fault table.now (name.now, value.now) association.now }
 {
-    if is_key_of(association, name) {
+    if association.has_key(name) {
         value_fault(table, association, value)
     } else {
         None
-    }
-}
-
-/// Whether a value is of a kind; nil is of each.
-fn has_kind(kind: Kind, value: &Value) -> bool
-    ensures { result ≡ has_kind kind value.now }
-{
-    match (kind, value) {
-        (_, Value::Nil) => true,
-        (Kind::Boolean, Value::Bool(_)) => true,
-        (Kind::Integer, Value::Int(_)) => true,
-        (Kind::Text, Value::Text(_)) => true,
-        _ => false,
     }
 }
 
@@ -179,19 +136,9 @@ fn value_fault(table: &Table, association: &BelongsTo, value: &Value) -> Option<
 fn number_fault(table: &Table, model: u16, number: i64) -> Option<Why>
     ensures { result ≡ (if option_map_or (λ id. is_some (row_of table.now model id)) (spec.id_of_int number) false then None else Some Why.BadParent) }
 {
-    if lives(table, model, id_of_int(number)) {
-        None
-    } else {
-        Some(Why::BadParent)
-    }
-}
-
-fn lives(table: &Table, model: u16, id: Option<u32>) -> bool
-    ensures { result ≡ option_map_or (λ id. is_some (row_of table.now model id)) id false }
-{
-    match id {
-        Some(id) => table.row(model, id).is_some(),
-        None => false,
+    match id_of_int(number) {
+        Some(id) if lives(table, (model, id)) => None,
+        _ => Some(Why::BadParent),
     }
 }
 

@@ -1,16 +1,17 @@
 //! What goes with a record that is destroyed, and when it may not go.
 
-ghost use Rattle.std.specs.Prelude.{◌≡◌, ◌==◌, ◌<◌, not, true, List, ℕ, [], map, length, is_some, IfOk, OnOk, if◌then◌else◌};
+ghost use Rattle.std.specs.Prelude.{◌≡◌, ◌==◌, ◌<◌, ◌≤◌, not, true, List, ℕ, [], map, length, is_some, IfOk, OnOk, if◌then◌else◌};
 ghost use Rattle.std.specs.List.{list_any, flat_map, enumerate_from};
 ghost use Rattle.doll_schema.specs.declared.model.BelongsTo.{BelongsTo};
+ghost use Rattle.doll_schema.specs.declared.limits.TheConstants.{MOST_PARENTS};
 ghost use Rattle.doll_table.specs.Tables.{ids_under};
 ghost use Rattle.doll_commit.specs.Records.{has, with_refs, SameRefs};
 ghost use Rattle.doll_commit.specs.Removed as spec;
 
 use crate::walk::{Ref, Refs};
-use doll_text::Memory;
 use doll_schema::{BelongsTo, HasMany, Schema};
 use doll_table::Table;
+use doll_text::Memory;
 use std::alloc::Global;
 
 /// A record, those that go because it goes, those that go because they go, and so on.
@@ -41,7 +42,7 @@ fn add_dependents(
 ) -> Result<(), Memory>
     ensures { OnOk result (removed.new ≡ with_refs removed.old (spec.dependents table.now schema.now gone)) }
 {
-    let Some(model) = schema.models.get(gone.0 as usize) else {
+    let Some(model) = schema.model(gone.0) else {
         return Ok(());
     };
     for many in model.has_many.as_slice() {
@@ -79,52 +80,40 @@ fn add_all(refs: &mut Refs, model: u16, ids: &[u32]) -> Result<(), Memory>
 }
 
 /// Whether a row outside of these records names one of them.
-pub fn is_restricted(table: &Table, schema: &Schema, removed: &Refs) -> Result<bool, Memory>
-    ensures { IfOk result (λ restricted. restricted ≡ spec.is_restricted table.now schema.now removed.now) }
+pub fn is_restricted(table: &Table, schema: &Schema, removed: &Refs) -> bool
+    ensures { result ≡ spec.is_restricted table.now schema.now removed.now }
 {
     for gone in removed.as_slice() {
-        if is_named(table, schema, removed, *gone)? {
-            return Ok(true);
+        if is_named(table, schema, removed, *gone) {
+            return true;
         }
     }
-    Ok(false)
+    false
 }
 
 /// Whether a row outside of these records names this one.
-fn is_named(table: &Table, schema: &Schema, removed: &Refs, gone: Ref) -> Result<bool, Memory>
-    ensures { IfOk result (λ named. named ≡ list_any (λ ref. not (has removed.now ref)) (spec.naming table.now schema.now gone)) }
+fn is_named(table: &Table, schema: &Schema, removed: &Refs, gone: Ref) -> bool
+    ensures { result ≡ list_any (λ ref. not (has removed.now ref)) (spec.naming table.now schema.now gone) }
 {
-    for (number, model) in schema.models.as_slice().iter().enumerate() {
+    for (number, model) in schema.models().iter().enumerate() {
         let parents = model.belongs_to.as_slice();
-        if is_named_by(table, removed, gone, short(number)?, parents)? {
-            return Ok(true);
+        if is_named_by(table, removed, gone, number as u16, parents) {
+            return true;
         }
     }
-    Ok(false)
+    false
 }
 
-/// The number of a model or an association, which has 16 bits. No schema that was read has more of them.
-pub fn short(number: usize) -> Result<u16, Memory>
-    ensures { IfOk result (λ n. n ≡ number) }
-{
-    u16::try_from(number).map_err(|_| Memory)
-}
-
-fn is_named_by(
-    table: &Table,
-    removed: &Refs,
-    gone: Ref,
-    model: u16,
-    parents: &[BelongsTo],
-) -> Result<bool, Memory>
-    ensures { IfOk result (λ named. named ≡ list_any (λ ref. not (has removed.now ref)) (flat_map (spec.naming_by table.now gone model) (enumerate_from 0 parents.now))) }
+fn is_named_by(table: &Table, removed: &Refs, gone: Ref, model: u16, parents: &[BelongsTo]) -> bool
+    requires { length parents.now ≤ MOST_PARENTS }
+    ensures { result ≡ list_any (λ ref. not (has removed.now ref)) (flat_map (spec.naming_by table.now gone model) (enumerate_from 0 parents.now)) }
 {
     for (place, association) in parents.iter().enumerate() {
-        if is_named_at(table, removed, gone, model, short(place)?, association) {
-            return Ok(true);
+        if is_named_at(table, removed, gone, model, place as u16, association) {
+            return true;
         }
     }
-    Ok(false)
+    false
 }
 
 fn is_named_at(

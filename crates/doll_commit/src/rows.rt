@@ -4,12 +4,12 @@ ghost use Rattle.std.specs.Prelude.{◌≡◌, ◌||◌, List, ℕ, map, zip, If
 ghost use Rattle.std.specs.List.{list_any};
 ghost use Rattle.std.specs.Option.{option_copied, option_map_or};
 ghost use Rattle.doll_schema.specs.declared.value.Value.{Value};
-ghost use Rattle.doll_commit.specs.Given.{value_given, key_name, key_of};
+ghost use Rattle.doll_commit.specs.Given.{value_given, key_of};
 ghost use Rattle.doll_commit.specs.Rows as spec;
 
 use crate::given::{key_given, key_of, value_given};
-use doll_text::{Copied, Items, Memory, Name};
 use doll_schema::{Attribute, BelongsTo, Model, ParentIds, Row, Value, Values};
+use doll_text::{Copied, Items, Memory, Name};
 use std::alloc::Global;
 
 /// A row before its creation: all nil.

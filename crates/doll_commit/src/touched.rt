@@ -8,9 +8,9 @@ ghost use Rattle.doll_commit.specs.Commits.{touched_by, row_touches, touch_paren
 
 use crate::apply::Applied;
 use crate::walk::{Ref, Refs};
-use doll_text::{Copied, Ids, Memory};
 use doll_schema::{BelongsTo, Model, Row, Schema};
 use doll_table::Table;
+use doll_text::{Copied, Ids, Memory};
 use std::alloc::Global;
 
 /// What changes made in order come to: the table after it with the commit's moment at its touched set.
@@ -69,7 +69,7 @@ pub fn add_touch_parents(
 ) -> Result<(), Memory>
     ensures { OnOk result (refs.new ≡ with_refs refs.old (touch_parents table.now schema.now one)) }
 {
-    let Some(model) = schema.models.get(one.0 as usize) else {
+    let Some(model) = schema.model(one.0) else {
         return Ok(());
     };
     let Some(row) = table.row(one.0, one.1) else {

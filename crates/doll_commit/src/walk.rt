@@ -1,9 +1,11 @@
 //! Records in the order found, each once, with a set beside them so that a look for one is short.
 
-ghost use Rattle.std.specs.Prelude.{◌≡◌, ◌<◌, ◌^◌, [], IfOk, OnOk, OnErr, length, slice_get};
+ghost use Rattle.std.specs.Prelude.{◌≡◌, ◌<◌, ◌^◌, [], IfOk, OnOk, OnErr, length, slice_get, is_some};
 ghost use Rattle.std.specs.List.{IsDistinct};
+ghost use Rattle.doll_table.specs.Tables.{row_of};
 ghost use Rattle.doll_commit.specs.Records.{has, is_ref, with_ref, with_refs};
 
+use doll_table::Table;
 use doll_text::Memory;
 use std::alloc::Global;
 use std::collections::BTreeSet;
@@ -11,6 +13,13 @@ use std::marker::Model;
 
 /// A record: the number of its model, and its id.
 pub type Ref = (u16, u32);
+
+/// Whether a record lives.
+pub fn lives(table: &Table, one: Ref) -> bool
+    ensures { result ≡ is_some (row_of table.now one.0 one.1) }
+{
+    table.row(one.0, one.1).is_some()
+}
 
 /// A list of records, each once.
 #[derive(Drop)]
@@ -24,6 +33,7 @@ impl Model for Refs {
     ghost use Rattle.std.specs.List.{IsDistinct};
     ghost use Rattle.std.specs.Ordering.{nat_cmp, ordering_then};
     ghost use Rattle.std.specs.BTreeSet.{contains};
+    ghost use Rattle.doll_table.specs.Tables.{row_of};
     ghost use Rattle.doll_commit.specs.Records.{Ref, has, is_ref};
 
     ghost Value = { List Ref };

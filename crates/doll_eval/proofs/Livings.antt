@@ -20,7 +20,8 @@ use Rattle.doll_schema.specs.declared.model.BelongsTo.{BelongsTo}
 use Rattle.doll_schema.specs.declared.model.HasMany.{HasMany}
 use Rattle.doll_schema.specs.declared.model.Model.{Model}
 use Rattle.doll_schema.specs.declared.model.Schema.{Schema}
-use Rattle.doll_table.specs.Tables.{TableMap, row_of, rows_in, parent_of, names_parent, ids_under, many_of, children_of}
+use Rattle.doll_schema.specs.Lookups.{many_of}
+use Rattle.doll_table.specs.Tables.{TableMap, row_of, rows_in, parent_of, names_parent, ids_under, children_of}
 use Rattle.doll_table.specs.Fits.{Fits}
 use Rattle.doll_eval.specs.declared.member.Member.{Member}
 use Rattle.doll_eval.specs.declared.member.Member.TheVariants as member

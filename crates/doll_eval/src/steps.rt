@@ -4,9 +4,11 @@ ghost use Rattle.std.specs.Prelude.{◌≡◌, ◌+◌, ◌≤◌, ◌<◌, ℕ,
 ghost use Rattle.std.specs.Option.{option_map_or};
 ghost use Rattle.doll_schema.specs.declared.value.Row.{Row};
 ghost use Rattle.doll_schema.specs.declared.value.Value.{Value};
-ghost use Rattle.doll_table.specs.Tables.{row_of, parent_of, many_of, children_of};
+ghost use Rattle.doll_table.specs.Tables.{row_of, parent_of, children_of};
 ghost use Rattle.doll_schema.specs.declared.model.BelongsTo.{BelongsTo};
 ghost use Rattle.doll_schema.specs.declared.model.HasMany.{HasMany};
+ghost use Rattle.doll_schema.specs.Limits.{HasFewParts};
+ghost use Rattle.doll_schema.specs.Lookups.{many_of};
 ghost use Rattle.doll_table.specs.Fits.{Fits};
 ghost use Rattle.doll_eval.specs.Living.{IsLiving};
 ghost use Rattle.doll_eval.specs.Values;
@@ -72,7 +74,7 @@ fn record_step<R: Rows>(
     ensures table { R.table rows.new ≡ R.table rows.old }
     ensures looks { R.looks rows.new ≤ R.looks rows.old + step_looks schema.now (Val.Record model id) name.now }
 {
-    let Some(of) = schema.models.get(model as usize) else {
+    let Some(of) = schema.model(model) else {
         return Ok(nil());
     };
     match Member::of(of, name.as_bytes()) {
@@ -81,16 +83,7 @@ fn record_step<R: Rows>(
         Member::Id => Ok(Val::Plain(Value::Int(i64::from(id)))),
         Member::UpdatedAt => Ok(updated_at(rows, model, id)),
         Member::Parent(at) => Ok(parent(rows, of, model, id, at)),
-        Member::Children(at) => children_list(
-            rows,
-            alloc,
-            of,
-            Assoc {
-                model,
-                has_many: at,
-            },
-            id,
-        ),
+        Member::Children(at) => children_list(rows, alloc, of, model, id, at),
         Member::Unknown => Ok(nil()),
     }
 }
@@ -128,18 +121,21 @@ fn children_list<R: Rows>(
     rows: &mut R,
     alloc: Global,
     of: &Model,
-    assoc: Assoc,
+    model: u16,
     id: u32,
+    at: usize,
 ) -> Result<Val, Memory>
-    requires { slice_get (R.table rows.old).schema.models assoc.model ≡ Some of.now }
-    ensures value { IfOk result (λ v. v ≡ option_map_or (λ (many : HasMany). Val.List many.model (children_of (R.table rows.old) assoc.model assoc.has_many id)) (slice_get of.now.has_many assoc.has_many) nil) }
+    requires same { slice_get (R.table rows.old).schema.models model ≡ Some of.now }
+    requires few { HasFewParts of.now }
+    ensures value { IfOk result (λ v. v ≡ option_map_or (λ (many : HasMany). Val.List many.model (children_of (R.table rows.old) model at id)) (slice_get of.now.has_many at) nil) }
     ensures table { R.table rows.new ≡ R.table rows.old }
     ensures looks { R.looks rows.new ≤ R.looks rows.old + 1 }
 {
-    let Some(many) = of.has_many.get(assoc.has_many as usize) else {
+    let Some(many) = of.has_many.get(at) else {
         return Ok(nil());
     };
-    let ids = children(rows, alloc, assoc, id)?;
+    let has_many = at as u16;
+    let ids = children(rows, alloc, Assoc { model, has_many }, id)?;
     Ok(Val::List {
         model: many.model,
         ids,

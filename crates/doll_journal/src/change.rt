@@ -1,9 +1,7 @@
 //! What a commit changes.
 
-ghost use Rattle.std.specs.Prelude.{◌≡◌, IfOk};
-
-use doll_text::{Copied, Items, Memory, Name, copy_list};
 use doll_schema::Value;
+use doll_text::{Copied, Items, Memory, Name, copy_list};
 use std::alloc::Global;
 
 /// Attributes and foreign keys by name, with their values, in ascending order of the names where they were read from JSON.
@@ -38,12 +36,12 @@ impl Copied for Change {
         match self {
             Change::Create { model, values } => Ok(Change::Create {
                 model: model.copy(alloc)?,
-                values: copy_given(alloc, values.as_slice())?,
+                values: copy_list(alloc, values.as_slice())?,
             }),
             Change::Update { model, id, values } => Ok(Change::Update {
                 model: model.copy(alloc)?,
                 id: *id,
-                values: copy_given(alloc, values.as_slice())?,
+                values: copy_list(alloc, values.as_slice())?,
             }),
             Change::Destroy { model, id } => Ok(Change::Destroy {
                 model: model.copy(alloc)?,
@@ -55,17 +53,6 @@ impl Copied for Change {
             }),
         }
     }
-}
-
-/// Equal names with equal values.
-pub fn copy_given(alloc: Global, given: &[(Name, Value)]) -> Result<Given, Memory>
-    ensures { IfOk result (λ copy. copy ≡ given.now) }
-{
-    let mut copy = Items::new(alloc);
-    for (name, value) in given {
-        copy.push((name.copy(alloc)?, value.copy(alloc)?))?;
-    }
-    Ok(copy)
 }
 
 impl Copied for Commit {

@@ -13,8 +13,8 @@ use crate::change::{Change, Changes, Commit, Given};
 use crate::fault::JournalFault;
 use crate::lengths::MOST_BYTES;
 use crate::storable::is_text;
-use doll_text::{Items, Name, Text};
 use doll_schema::Value;
+use doll_text::{Items, Name, Text};
 use std::alloc::Global;
 
 /// The commit whose bytes these are, all of them.

@@ -5,8 +5,8 @@ ghost use Rattle.std.specs.Int.{w32, to_be_bytes};
 ghost use Rattle.doll_journal.specs.Spelling.{text_bytes, value_bytes, pair_bytes, given_bytes, change_bytes, changes_bytes, spelling};
 
 use crate::change::{Change, Commit};
-use doll_text::{Memory, Name};
 use doll_schema::Value;
+use doll_text::{Memory, Name};
 use std::alloc::Global;
 
 /// The one spelling of the commit, which has `2^31` bytes at most: so it is where `are_storable` says yes of its changes,

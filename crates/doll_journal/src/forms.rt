@@ -10,9 +10,9 @@ ghost use Rattle.doll_journal.specs.Forms.{value_in, pair_in, pairs_in, given_in
 
 use crate::change::{Change, Changes, Given};
 use crate::lengths::have_room;
-use doll_text::{Items, Memory, Name, Text};
 use doll_schema::Value;
 use doll_schema::json::{has_only, object_at, text_at, whole_at};
+use doll_text::{Items, Memory, Name, Text};
 use serde_json::Map;
 use std::alloc::Global;
 

@@ -4,8 +4,8 @@ ghost use Rattle.std.specs.Prelude.{◌≡◌, ◌+◌, ◌^◌, length, min, na
 ghost use Rattle.doll_journal.specs.Spelling.{text_bytes, value_bytes, pair_bytes, given_bytes, change_bytes, changes_bytes};
 
 use crate::change::Change;
-use doll_text::Name;
 use doll_schema::Value;
+use doll_text::Name;
 
 /// The most bytes of a commit: 2^31.
 pub const MOST_BYTES: u64 = 2_147_483_648;

@@ -8,8 +8,8 @@ ghost use Rattle.doll_journal.specs.Storable.{FitsValue, FitsPair, FitsChange, A
 
 use crate::change::Change;
 use crate::lengths::have_room;
-use doll_text::Name;
 use doll_schema::Value;
+use doll_text::Name;
 
 /// Whether a commit may have these changes, whoever makes it: their names and texts are UTF-8, and with them its bytes are
 /// `2^31` at most. Changes that were read, from JSON or from bytes, are such.

@@ -13,9 +13,11 @@ use Rattle.doll_schema.specs.declared.fault.Part.TheVariants as parts
 use Rattle.doll_schema.specs.declared.fault.Place.{Place}
 use Rattle.doll_schema.specs.declared.fault.SchemaFault.{SchemaFault}
 use Rattle.doll_schema.specs.declared.fault.SchemaFault.TheVariants.{BadForm, DuplicateName, TooMany, UnknownKind}
+use Rattle.doll_schema.specs.declared.limits.TheConstants.{MOST_MODELS, MOST_ATTRIBUTES, MOST_PARENTS, MOST_MANYS}
 use Rattle.doll_schema.specs.declared.model.Attribute.{Attribute}
 use Rattle.doll_schema.specs.declared.model.Kind.{Kind}
 use Rattle.doll_schema.specs.declared.model.Kind.TheVariants.{Boolean, Integer, Text}
+use Rattle.doll_schema.specs.Lookups.{key_name}
 use Rattle.doll_schema.specs.Json.{bool_or, has_only, list_at, list_or_empty, text_at}
 use Rattle.doll_text.specs.Names.{is_name}
 use Rattle.doll_text.specs.Steps.{◌>>=◌, ◌>>◌, check}
@@ -56,38 +58,38 @@ is_taken name attributes parents manys =
     || list_any (λ m. bytes_eq name m.name) manys
 
 -- an attribute behind others of its model
-abbrev pub attribute_of : Place → List Attribute → Data → Result Attribute SchemaFault
-attribute_of at earlier d = do
+abbrev pub attribute_draft : Place → List Attribute → Data → Result Attribute SchemaFault
+attribute_draft at earlier d = do
   check (has_only (codes "name" ∷ codes "kind" ∷ codes "null" ∷ []) d) (BadForm at)
   name ← ok_or (name_at (codes "name") d) (BadForm at)
   kind_text ← ok_or (text_at (codes "kind") d) (BadForm at)
   null ← ok_or (bool_or (codes "null") true d) (BadForm at)
-  check (nat_lt at.item 32) (TooMany at)
+  check (nat_lt at.item MOST_ATTRIBUTES) (TooMany at)
   kind ← ok_or (kind_named kind_text) (UnknownKind at)
   check (not (is_taken name earlier [] [])) (DuplicateName at)
   Ok (record { name = name; kind = kind; null = null })
 
 -- an association to a parent, behind the attributes and others of its kind
-abbrev pub parent_of : Place → List Attribute → List ParentDraft → Data → Result ParentDraft SchemaFault
-parent_of at attributes earlier d = do
+abbrev pub parent_draft : Place → List Attribute → List ParentDraft → Data → Result ParentDraft SchemaFault
+parent_draft at attributes earlier d = do
   check (has_only (codes "name" ∷ codes "model" ∷ codes "touch" ∷ codes "null" ∷ []) d) (BadForm at)
   name ← ok_or (name_at (codes "name") d) (BadForm at)
   model ← ok_or (text_at (codes "model") d) (BadForm at)
   touch ← ok_or (bool_or (codes "touch") false d) (BadForm at)
   null ← ok_or (bool_or (codes "null") false d) (BadForm at)
-  check (nat_lt at.item 8) (TooMany at)
-  check (not (is_taken name attributes earlier [] || is_taken (name ++ codes "_id") attributes earlier [])) (DuplicateName at)
-  Ok (record { name = name; key = name ++ codes "_id"; model = model; touch = touch; null = null })
+  check (nat_lt at.item MOST_PARENTS) (TooMany at)
+  check (not (is_taken name attributes earlier [] || is_taken (key_name name) attributes earlier [])) (DuplicateName at)
+  Ok (record { name = name; key = key_name name; model = model; touch = touch; null = null })
 
 -- an association to children, behind all others
-abbrev pub many_of : Place → List Attribute → List ParentDraft → List ManyDraft → Data → Result ManyDraft SchemaFault
-many_of at attributes parents earlier d = do
+abbrev pub many_draft : Place → List Attribute → List ParentDraft → List ManyDraft → Data → Result ManyDraft SchemaFault
+many_draft at attributes parents earlier d = do
   check (has_only (codes "name" ∷ codes "model" ∷ codes "inverse" ∷ codes "dependent" ∷ []) d) (BadForm at)
   name ← ok_or (name_at (codes "name") d) (BadForm at)
   model ← ok_or (text_at (codes "model") d) (BadForm at)
   inverse ← ok_or (text_at (codes "inverse") d) (BadForm at)
   destroy ← ok_or (destroy_if_given (get (codes "dependent") d)) (BadForm at)
-  check (nat_lt at.item 8) (TooMany at)
+  check (nat_lt at.item MOST_MANYS) (TooMany at)
   check (not (is_taken name attributes parents earlier)) (DuplicateName at)
   Ok (record { name = name; model = model; inverse = inverse; destroy = destroy })
 
@@ -95,19 +97,19 @@ many_of at attributes parents earlier d = do
 abbrev pub attributes_from : ℕ → List Attribute → Items → Result (List Attribute) SchemaFault
 attributes_from model earlier no_items = Ok earlier
 attributes_from model earlier (item d ds) = do
-  attribute ← attribute_of (place model parts.Attributes (length earlier)) earlier d
+  attribute ← attribute_draft (place model parts.Attributes (length earlier)) earlier d
   attributes_from model (earlier ++ attribute ∷ []) ds
 
 abbrev pub parents_from : ℕ → List Attribute → List ParentDraft → Items → Result (List ParentDraft) SchemaFault
 parents_from model attributes earlier no_items = Ok earlier
 parents_from model attributes earlier (item d ds) = do
-  parent ← parent_of (place model parts.BelongsTo (length earlier)) attributes earlier d
+  parent ← parent_draft (place model parts.BelongsTo (length earlier)) attributes earlier d
   parents_from model attributes (earlier ++ parent ∷ []) ds
 
 abbrev pub manys_from : ℕ → List Attribute → List ParentDraft → List ManyDraft → Items → Result (List ManyDraft) SchemaFault
 manys_from model attributes parents earlier no_items = Ok earlier
 manys_from model attributes parents earlier (item d ds) = do
-  many ← many_of (place model parts.HasMany (length earlier)) attributes parents earlier d
+  many ← many_draft (place model parts.HasMany (length earlier)) attributes parents earlier d
   manys_from model attributes parents (earlier ++ many ∷ []) ds
 
 -- the three arrays of a model, of which the last two may be left out
@@ -155,10 +157,10 @@ model_with model name plural d = do
   Ok (record { name = name; plural = plural; attributes = attributes; belongs_to = parents; has_many = manys })
 
 -- a model behind the earlier ones, its parts in order (this project's own)
-abbrev pub model_of : List ModelDraft → Data → Result ModelDraft SchemaFault
-model_of earlier d = do
+abbrev pub model_draft : List ModelDraft → Data → Result ModelDraft SchemaFault
+model_draft earlier d = do
   check (has_model_keys d) (BadForm (place (length earlier) parts.Whole 0))
-  check (nat_lt (length earlier) 32) (TooMany (place (length earlier) parts.Whole 0))
+  check (nat_lt (length earlier) MOST_MODELS) (TooMany (place (length earlier) parts.Whole 0))
   name ← own_name (place (length earlier) parts.Name 0) (codes "name") (is_model earlier) d
   plural ← own_name (place (length earlier) parts.Plural 0) (codes "plural") (is_plural earlier) d
   model_with (length earlier) name plural d
@@ -166,7 +168,7 @@ model_of earlier d = do
 abbrev pub models_from : List ModelDraft → Items → Result (List ModelDraft) SchemaFault
 models_from earlier no_items = Ok earlier
 models_from earlier (item d ds) = do
-  model ← model_of earlier d
+  model ← model_draft earlier d
   models_from (earlier ++ model ∷ []) ds
 
 -- an object with the models and nothing else

@@ -1,15 +1,16 @@
 -- How much a schema may hold (this project's own).
 use Rattle.std.specs.Prelude.{◌≤◌, List, length, All}
+use Rattle.doll_schema.specs.declared.limits.TheConstants.{MOST_MODELS, MOST_ATTRIBUTES, MOST_PARENTS, MOST_MANYS}
 use Rattle.doll_schema.specs.declared.draft.ModelDraft.{ModelDraft}
 use Rattle.doll_schema.specs.declared.model.Model.{Model}
 
--- at most 32 models
+-- at most as many models as a schema may have
 abbrev pub AreFewModels : {M : Type 0} → List M → Type 0
-AreFewModels models = length models ≤ 32
+AreFewModels models = length models ≤ MOST_MODELS
 
--- a model's parts: at most 32 attributes, 8 associations to parents and 8 to children
+-- at most as many attributes, associations to parents and associations to children as a model may have
 abbrev pub AreFewParts : {A B H : Type 0} → List A → List B → List H → Type 0
-AreFewParts attributes parents manys = (length attributes ≤ 32) × (length parents ≤ 8) × (length manys ≤ 8)
+AreFewParts attributes parents manys = (length attributes ≤ MOST_ATTRIBUTES) × (length parents ≤ MOST_PARENTS) × (length manys ≤ MOST_MANYS)
 
 -- a model as it is written has few parts, and so has one whose associations are looked up
 abbrev pub HasFewDrafts : ModelDraft → Type 0

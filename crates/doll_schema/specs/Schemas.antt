@@ -1,6 +1,6 @@
 -- The schema that a JSON value is: its models, and what they refer to.
-use Rattle.std.specs.Prelude.{ℕ, ◌&&◌, ◌==◌, Bool, not, List, [], ◌∷◌, ◌++◌, length, Option, option_and_then, slice_get, Result, Ok}
-use Rattle.std.specs.List.{list_any, position_from}
+use Rattle.std.specs.Prelude.{ℕ, ◌&&◌, ◌==◌, Bool, not, List, [], ◌∷◌, ◌++◌, length, Option, option_and_then, position, slice_get, Result, Ok}
+use Rattle.std.specs.List.{list_any}
 use Rattle.std.specs.Option.{ok_or}
 use Rattle.std.specs.Str.{bytes_eq}
 use Rattle.serde_json.specs.Data.{Data}
@@ -18,17 +18,17 @@ use Rattle.doll_schema.specs.declared.model.Schema.{Schema}
 use Rattle.doll_schema.specs.Drafts.{drafts_of, place}
 use Rattle.doll_text.specs.Steps.{◌>>=◌, ◌>>◌, check}
 
--- the number of the model with this name
-abbrev pub model_named : List ModelDraft → List ℕ → Option ℕ
-model_named models name = position_from (λ m. bytes_eq name m.name) 0 models
+-- the number of the draft with this name
+abbrev pub draft_named : List ModelDraft → List ℕ → Option ℕ
+draft_named models name = position (λ (m : ModelDraft). bytes_eq name m.name) models
 
 -- the number of the association with this name to the model `own`
-abbrev pub parent_named : List ParentDraft → List ℕ → List ℕ → Option ℕ
-parent_named parents own name = position_from (λ p. bytes_eq name p.name && bytes_eq own p.model) 0 parents
+abbrev pub parent_draft_named : List ParentDraft → List ℕ → List ℕ → Option ℕ
+parent_draft_named parents own name = position (λ (p : ParentDraft). bytes_eq name p.name && bytes_eq own p.model) parents
 
 -- the same among those of a model
 abbrev pub inverse_named : List ModelDraft → ℕ → List ℕ → List ℕ → Option ℕ
-inverse_named models child own name = option_and_then (λ m. parent_named m.belongs_to own name) (slice_get models child)
+inverse_named models child own name = option_and_then (λ (m : ModelDraft). parent_draft_named m.belongs_to own name) (slice_get models child)
 
 -- an association to the children of one of these already
 abbrev pub has_inverse : List HasMany → ℕ → ℕ → Bool
@@ -37,13 +37,13 @@ has_inverse manys child inverse = list_any (λ m. m.model == child && m.inverse 
 -- an association to a parent, its model looked up
 abbrev pub belongs_to_of : List ModelDraft → Place → ParentDraft → Result BelongsTo SchemaFault
 belongs_to_of models at draft = do
-  model ← ok_or (model_named models draft.model) (UnknownModel at)
+  model ← ok_or (draft_named models draft.model) (UnknownModel at)
   Ok (record { name = draft.name; model = model; touch = draft.touch; null = draft.null })
 
 -- an association to children, their model and its inverse looked up: an association of theirs to the model `own`, and none of an earlier one
 abbrev pub has_many_of : List ModelDraft → List ℕ → Place → List HasMany → ManyDraft → Result HasMany SchemaFault
 has_many_of models own at earlier draft = do
-  child ← ok_or (model_named models draft.model) (UnknownModel at)
+  child ← ok_or (draft_named models draft.model) (UnknownModel at)
   inverse ← ok_or (inverse_named models child own draft.inverse) (BadInverse at)
   check (not (has_inverse earlier child inverse)) (BadInverse at)
   Ok (record { name = draft.name; model = child; inverse = inverse; destroy = draft.destroy })

@@ -7,12 +7,14 @@ ghost use Rattle.std.specs.Str.{bytes_eq};
 ghost use Rattle.serde_json.specs.Find.{get};
 ghost use Rattle.serde_json.specs.View.{items_view, view};
 ghost use Rattle.doll_text.specs.Gives.{Gives};
-ghost use Rattle.doll_schema.specs.Limits.{HasFewDrafts, AreDraftsWithinLimits};
-ghost use Rattle.doll_schema.specs.Drafts.{attribute_of, attributes_from, parent_of, parents_from, many_of, manys_from, attributes_of, parents_of, manys_of, model_of, model_with, models_from, drafts_of, name_at, kind_named, destroy_named, destroy_if_given, is_taken, is_model, is_plural, has_model_keys, model_items, place};
+ghost use Rattle.doll_schema.specs.Limits.{AreFewModels, HasFewDrafts, AreDraftsWithinLimits};
+ghost use Rattle.doll_schema.specs.Lookups.{key_name};
+ghost use Rattle.doll_schema.specs.Drafts.{attribute_draft, attributes_from, parent_draft, parents_from, many_draft, manys_from, attributes_of, parents_of, manys_of, model_draft, model_with, models_from, drafts_of, name_at, kind_named, destroy_named, destroy_if_given, is_taken, is_model, is_plural, has_model_keys, model_items, place};
 
 use crate::draft::{ManyDraft, ManyDrafts, ModelDraft, ModelDrafts, ParentDraft, ParentDrafts};
 use crate::fault::{Part, Place, SchemaFault};
 use crate::json::{bool_or, has_only, list_at, list_or_empty, text_at};
+use crate::limits::{MOST_ATTRIBUTES, MOST_MANYS, MOST_MODELS, MOST_PARENTS};
 use crate::model::{Attribute, Attributes, Kind};
 use doll_text::{Items, Memory, Name, Text, is_name};
 use serde_json::Value;
@@ -52,16 +54,20 @@ fn models_of(alloc: Global, items: &[Value]) -> Result<ModelDrafts, SchemaFault>
 {
     let mut models = Items::new(alloc);
     for item in items {
-        let model = model_of(alloc, models.as_slice(), item)?;
+        let model = model_draft(alloc, models.as_slice(), item)?;
         models.push(model)?;
     }
     Ok(models)
 }
 
-fn model_of(alloc: Global, earlier: &[ModelDraft], json: &Value) -> Result<ModelDraft, SchemaFault>
-    requires { length earlier.now ≤ 32 }
-    ensures exact { Gives SchemaFault.Memory (model_of earlier.now (view json.now)) result }
-    ensures room { OnOk result (length earlier.now < 32) }
+fn model_draft(
+    alloc: Global,
+    earlier: &[ModelDraft],
+    json: &Value,
+) -> Result<ModelDraft, SchemaFault>
+    requires { AreFewModels earlier.now }
+    ensures exact { Gives SchemaFault.Memory (model_draft earlier.now (view json.now)) result }
+    ensures room { OnOk result (length earlier.now < MOST_MODELS) }
     ensures few { IfOk result HasFewDrafts }
 {
     let number = earlier.len() as u32;
@@ -70,7 +76,7 @@ fn model_of(alloc: Global, earlier: &[ModelDraft], json: &Value) -> Result<Model
             at: place(number, Part::Whole, 0),
         });
     }
-    if number >= 32 {
+    if number >= MOST_MODELS {
         return Err(SchemaFault::TooMany {
             at: place(number, Part::Whole, 0),
         });
@@ -164,7 +170,7 @@ pub fn name_at<'a>(json: &'a Value, key: &str) -> Option<&'a str>
 
 fn model_attributes(alloc: Global, model: u32, json: &Value) -> Result<Attributes, SchemaFault>
     ensures exact { Gives SchemaFault.Memory (attributes_of model (view json.now)) result }
-    ensures few { IfOk result (λ attributes. length attributes ≤ 32) }
+    ensures few { IfOk result (λ attributes. length attributes ≤ MOST_ATTRIBUTES) }
 {
     let Some(items) = list_at(json, "attributes") else {
         return Err(SchemaFault::BadForm {
@@ -174,20 +180,20 @@ fn model_attributes(alloc: Global, model: u32, json: &Value) -> Result<Attribute
     let mut attributes = Items::new(alloc);
     for item in items {
         let at = place(model, Part::Attributes, attributes.len() as u32);
-        let attribute = attribute_of(alloc, at, attributes.as_slice(), item)?;
+        let attribute = attribute_draft(alloc, at, attributes.as_slice(), item)?;
         attributes.push(attribute)?;
     }
     Ok(attributes)
 }
 
-fn attribute_of(
+fn attribute_draft(
     alloc: Global,
     at: Place,
     earlier: &[Attribute],
     json: &Value,
 ) -> Result<Attribute, SchemaFault>
-    ensures exact { Gives SchemaFault.Memory (attribute_of at earlier.now (view json.now)) result }
-    ensures room { OnOk result (at.item < 32) }
+    ensures exact { Gives SchemaFault.Memory (attribute_draft at earlier.now (view json.now)) result }
+    ensures room { OnOk result (at.item < MOST_ATTRIBUTES) }
 {
     if !has_only(json, &["name", "kind", "null"]) {
         return Err(SchemaFault::BadForm { at });
@@ -201,7 +207,7 @@ fn attribute_of(
     let Some(null) = bool_or(json, "null", true) else {
         return Err(SchemaFault::BadForm { at });
     };
-    if at.item >= 32 {
+    if at.item >= MOST_ATTRIBUTES {
         return Err(SchemaFault::TooMany { at });
     }
     let Some(kind) = kind_named(kind) else {
@@ -268,7 +274,7 @@ fn model_parents(
     json: &Value,
 ) -> Result<ParentDrafts, SchemaFault>
     ensures exact { Gives SchemaFault.Memory (parents_of model attributes.now (view json.now)) result }
-    ensures few { IfOk result (λ parents. length parents ≤ 8) }
+    ensures few { IfOk result (λ parents. length parents ≤ MOST_PARENTS) }
 {
     let Some(items) = list_or_empty(json, "belongs_to") else {
         return Err(SchemaFault::BadForm {
@@ -278,21 +284,21 @@ fn model_parents(
     let mut parents = Items::new(alloc);
     for item in items {
         let at = place(model, Part::BelongsTo, parents.len() as u32);
-        let parent = parent_of(alloc, at, attributes, parents.as_slice(), item)?;
+        let parent = parent_draft(alloc, at, attributes, parents.as_slice(), item)?;
         parents.push(parent)?;
     }
     Ok(parents)
 }
 
-fn parent_of(
+fn parent_draft(
     alloc: Global,
     at: Place,
     attributes: &[Attribute],
     earlier: &[ParentDraft],
     json: &Value,
 ) -> Result<ParentDraft, SchemaFault>
-    ensures exact { Gives SchemaFault.Memory (parent_of at attributes.now earlier.now (view json.now)) result }
-    ensures room { OnOk result (at.item < 8) }
+    ensures exact { Gives SchemaFault.Memory (parent_draft at attributes.now earlier.now (view json.now)) result }
+    ensures room { OnOk result (at.item < MOST_PARENTS) }
 {
     if !has_only(json, &["name", "model", "touch", "null"]) {
         return Err(SchemaFault::BadForm { at });
@@ -309,10 +315,10 @@ fn parent_of(
     let Some(null) = bool_or(json, "null", false) else {
         return Err(SchemaFault::BadForm { at });
     };
-    if at.item >= 8 {
+    if at.item >= MOST_PARENTS {
         return Err(SchemaFault::TooMany { at });
     }
-    let key = key_of(alloc, name)?;
+    let key = key_name(alloc, name)?;
     if is_taken(name.as_bytes(), attributes, earlier, &[]) {
         return Err(SchemaFault::DuplicateName { at });
     }
@@ -328,9 +334,9 @@ fn parent_of(
     })
 }
 
-/// The foreign key of an association.
-fn key_of(alloc: Global, name: &str) -> Result<Name, Memory>
-    ensures { IfOk result (λ key. key ≡ name.now ++ codes "_id") }
+/// The name of the foreign key of an association.
+fn key_name(alloc: Global, name: &str) -> Result<Name, Memory>
+    ensures { IfOk result (λ key. key ≡ key_name name.now) }
 {
     let mut key = Vec::from_slice(alloc, name.as_bytes())?;
     key.extend_from_slice(b"_id")?;
@@ -345,7 +351,7 @@ fn model_manys(
     json: &Value,
 ) -> Result<ManyDrafts, SchemaFault>
     ensures exact { Gives SchemaFault.Memory (manys_of model attributes.now parents.now (view json.now)) result }
-    ensures few { IfOk result (λ manys. length manys ≤ 8) }
+    ensures few { IfOk result (λ manys. length manys ≤ MOST_MANYS) }
 {
     let Some(items) = list_or_empty(json, "has_many") else {
         return Err(SchemaFault::BadForm {
@@ -355,13 +361,13 @@ fn model_manys(
     let mut manys = Items::new(alloc);
     for item in items {
         let at = place(model, Part::HasMany, manys.len() as u32);
-        let many = many_of(alloc, at, attributes, parents, manys.as_slice(), item)?;
+        let many = many_draft(alloc, at, attributes, parents, manys.as_slice(), item)?;
         manys.push(many)?;
     }
     Ok(manys)
 }
 
-fn many_of(
+fn many_draft(
     alloc: Global,
     at: Place,
     attributes: &[Attribute],
@@ -369,8 +375,8 @@ fn many_of(
     earlier: &[ManyDraft],
     json: &Value,
 ) -> Result<ManyDraft, SchemaFault>
-    ensures exact { Gives SchemaFault.Memory (many_of at attributes.now parents.now earlier.now (view json.now)) result }
-    ensures room { OnOk result (at.item < 8) }
+    ensures exact { Gives SchemaFault.Memory (many_draft at attributes.now parents.now earlier.now (view json.now)) result }
+    ensures room { OnOk result (at.item < MOST_MANYS) }
 {
     if !has_only(json, &["name", "model", "inverse", "dependent"]) {
         return Err(SchemaFault::BadForm { at });
@@ -387,7 +393,7 @@ fn many_of(
     let Some(destroy) = destroy_at(json) else {
         return Err(SchemaFault::BadForm { at });
     };
-    if at.item >= 8 {
+    if at.item >= MOST_MANYS {
         return Err(SchemaFault::TooMany { at });
     }
     if is_taken(name.as_bytes(), attributes, parents, earlier) {

@@ -6,6 +6,7 @@ mod drafting;
 pub mod escaping;
 pub mod fault;
 pub mod json;
+pub mod limits;
 mod linking;
 pub mod model;
 pub mod value;

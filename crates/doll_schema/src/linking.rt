@@ -5,10 +5,11 @@ ghost use Rattle.std.specs.Str.{bytes_eq};
 ghost use Rattle.doll_text.specs.Gives.{Gives};
 ghost use Rattle.doll_schema.specs.Drafts.{place};
 ghost use Rattle.doll_schema.specs.Limits.{HasFewDrafts, HasFewParts, AreDraftsWithinLimits, AreWithinLimits};
-ghost use Rattle.doll_schema.specs.Schemas.{model_named, parent_named, inverse_named, has_inverse, belongs_to_of, has_many_of, belongs_to_from, has_many_from, linked_model, linked_from};
+ghost use Rattle.doll_schema.specs.Schemas.{draft_named, parent_draft_named, inverse_named, has_inverse, belongs_to_of, has_many_of, belongs_to_from, has_many_from, linked_model, linked_from};
 
 use crate::draft::{ManyDraft, ModelDraft, ParentDraft};
 use crate::fault::{Part, Place, SchemaFault};
+use crate::limits::{MOST_MANYS, MOST_PARENTS};
 use crate::model::{BelongsTo, HasMany, Manys, Model, Models, Parents};
 use doll_text::{Copied, Items, copy_list};
 use std::alloc::Global;
@@ -57,9 +58,9 @@ fn linked_parents(
     drafts: &[ParentDraft],
 ) -> Result<Parents, SchemaFault>
     requires models { AreDraftsWithinLimits models.now }
-    requires few { length drafts.now ≤ 8 }
+    requires few { length drafts.now ≤ MOST_PARENTS }
     ensures exact { Gives SchemaFault.Memory (belongs_to_from models.now number [] drafts.now) result }
-    ensures few { IfOk result (λ parents. length parents ≤ 8) }
+    ensures few { IfOk result (λ parents. length parents ≤ MOST_PARENTS) }
 {
     let mut parents = Items::new(alloc);
     for draft in drafts {
@@ -83,7 +84,7 @@ fn belongs_to_of(
     requires { AreDraftsWithinLimits models.now }
     ensures { Gives SchemaFault.Memory (belongs_to_of models.now at draft.now) result }
 {
-    let Some(model) = model_named(models, draft.model.as_bytes()) else {
+    let Some(model) = draft_named(models, draft.model.as_bytes()) else {
         return Err(SchemaFault::UnknownModel { at });
     };
     Ok(BelongsTo {
@@ -94,16 +95,18 @@ fn belongs_to_of(
     })
 }
 
-fn model_named(models: &[ModelDraft], name: &[u8]) -> Option<u16>
+fn draft_named(models: &[ModelDraft], name: &[u8]) -> Option<u16>
     requires { AreDraftsWithinLimits models.now }
-    ensures { result ≡ model_named models.now name.now }
+    ensures { result ≡ draft_named models.now name.now }
 {
-    for (number, model) in models.iter().enumerate() {
-        if name == model.name.as_bytes() {
-            return Some(number as u16);
-        }
-    }
-    None
+    let number = draft_at(models, name)?;
+    Some(number as u16)
+}
+
+fn draft_at(models: &[ModelDraft], name: &[u8]) -> Option<usize>
+    ensures { result ≡ draft_named models.now name.now }
+{
+    models.iter().position(|m| name == m.name.as_bytes())
 }
 
 fn linked_manys(
@@ -114,9 +117,9 @@ fn linked_manys(
     drafts: &[ManyDraft],
 ) -> Result<Manys, SchemaFault>
     requires models { AreDraftsWithinLimits models.now }
-    requires few { length drafts.now ≤ 8 }
+    requires few { length drafts.now ≤ MOST_MANYS }
     ensures exact { Gives SchemaFault.Memory (has_many_from models.now number own.now [] drafts.now) result }
-    ensures few { IfOk result (λ manys. length manys ≤ 8) }
+    ensures few { IfOk result (λ manys. length manys ≤ MOST_MANYS) }
 {
     let mut manys = Items::new(alloc);
     for draft in drafts {
@@ -142,7 +145,7 @@ fn has_many_of(
     requires { AreDraftsWithinLimits models.now }
     ensures { Gives SchemaFault.Memory (has_many_of models.now own.now at earlier.now draft.now) result }
 {
-    let Some(model) = model_named(models, draft.model.as_bytes()) else {
+    let Some(model) = draft_named(models, draft.model.as_bytes()) else {
         return Err(SchemaFault::UnknownModel { at });
     };
     let Some(inverse) = inverse_named(models, model, own, draft.inverse.as_bytes()) else {
@@ -164,19 +167,21 @@ fn inverse_named(models: &[ModelDraft], child: u16, own: &[u8], name: &[u8]) -> 
     ensures { result ≡ inverse_named models.now child own.now name.now }
 {
     let child = models.get(child as usize)?;
-    parent_named(child.belongs_to.as_slice(), own, name)
+    parent_draft_named(child.belongs_to.as_slice(), own, name)
 }
 
-fn parent_named(parents: &[ParentDraft], own: &[u8], name: &[u8]) -> Option<u16>
-    requires { length parents.now ≤ 8 }
-    ensures { result ≡ parent_named parents.now own.now name.now }
+fn parent_draft_named(parents: &[ParentDraft], own: &[u8], name: &[u8]) -> Option<u16>
+    requires { length parents.now ≤ MOST_PARENTS }
+    ensures { result ≡ parent_draft_named parents.now own.now name.now }
 {
-    for (number, parent) in parents.iter().enumerate() {
-        if is_parent(parent, own, name) {
-            return Some(number as u16);
-        }
-    }
-    None
+    let number = parent_draft_at(parents, own, name)?;
+    Some(number as u16)
+}
+
+fn parent_draft_at(parents: &[ParentDraft], own: &[u8], name: &[u8]) -> Option<usize>
+    ensures { result ≡ parent_draft_named parents.now own.now name.now }
+{
+    parents.iter().position(|p| is_parent(p, own, name))
 }
 
 fn is_parent(parent: &ParentDraft, own: &[u8], name: &[u8]) -> bool

@@ -38,7 +38,7 @@ pub enum Val {
     List { model: u16, ids: Ids },
 }
 
-/// Variables with their values. Of one name the last stands.
+/// Variables with their values. Of one name the last stands. `copy` makes an equal list.
 pub type Vars = Items<(Name, Val)>;
 
 impl Copied for Value {

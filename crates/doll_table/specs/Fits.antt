@@ -1,23 +1,13 @@
 -- When a table fits a schema (this project's own).
-use Rattle.std.specs.Prelude.{ℕ, ◌≡◌, ◌<◌, ◌≤◌, Bool, true, false, length, slice_get, Some, IsSome, IsTrue}
+use Rattle.std.specs.Prelude.{ℕ, ◌≡◌, ◌<◌, ◌≤◌, length, slice_get, Some, IsSome, IsTrue}
 use Rattle.doll_schema.specs.declared.value.Value.{Value}
-use Rattle.doll_schema.specs.declared.value.Value.TheVariants as value
 use Rattle.doll_schema.specs.declared.value.Row.{Row}
-use Rattle.doll_schema.specs.declared.model.Kind.{Kind}
-use Rattle.doll_schema.specs.declared.model.Kind.TheVariants as kind
 use Rattle.doll_schema.specs.declared.model.Attribute.{Attribute}
 use Rattle.doll_schema.specs.declared.model.BelongsTo.{BelongsTo}
 use Rattle.doll_schema.specs.declared.model.Model.{Model}
 use Rattle.doll_schema.specs.declared.model.Schema.{Schema}
+use Rattle.doll_schema.specs.Values.{has_kind}
 use Rattle.doll_table.specs.Tables.{TableMap, row_of, next_of, parent_of}
-
--- whether a value is of a kind; nil is of each
-abbrev pub has_kind : Kind → Value → Bool
-has_kind k value.Nil = true
-has_kind kind.Boolean (value.Bool b) = true
-has_kind kind.Integer (value.Int n) = true
-has_kind kind.Text (value.Text t) = true
-has_kind k v = false
 
 -- A row fits its model: it has a value of its kind for each attribute, and a key, nil or of a living row, for each
 -- association to a parent.

@@ -7,6 +7,7 @@ use Rattle.doll_schema.specs.declared.value.Row.{Row}
 use Rattle.doll_schema.specs.declared.model.Model.{Model}
 use Rattle.doll_schema.specs.declared.model.HasMany.{HasMany}
 use Rattle.doll_schema.specs.declared.model.Schema.{Schema}
+use Rattle.doll_schema.specs.Lookups.{many_of}
 
 -- the rows of one model by their ids, and the id that its next row gets
 pub record Extent : Type 0 where
@@ -49,10 +50,6 @@ names_parent place parent row = option_map_or (λ key. key == parent) (parent_of
 -- the ids, ascending, of a model's rows whose foreign key at a place names this parent
 abbrev pub ids_under : TableMap → ℕ → ℕ → ℕ → List ℕ
 ids_under table model place parent = map (λ entry. entry.0) (filter (λ entry. names_parent place parent entry.1) (finite.entries (rows_in table model)))
-
--- an association of a model to its children
-abbrev pub many_of : Schema → ℕ → ℕ → Option HasMany
-many_of schema model place = option_and_then (λ (m : Model). slice_get m.has_many place) (slice_get schema.models model)
 
 -- the ids of a record's children under an association, ascending
 abbrev pub children_of : TableMap → ℕ → ℕ → ℕ → List ℕ

@@ -2,7 +2,8 @@
 
 ghost use Rattle.std.specs.Prelude.{◌≡◌, ◌<◌, length, ℕ, IsSome};
 ghost use Rattle.std.specs.Option.{option_copied};
-ghost use Rattle.doll_table.specs.Tables.{row_of, children_of, ids_of, many_of};
+ghost use Rattle.doll_table.specs.Tables.{row_of, children_of, ids_of};
+ghost use Rattle.doll_schema.specs.Lookups.{many_of};
 
 use doll_schema::Row;
 

@@ -40,7 +40,7 @@ impl Table {
         ensures fits { IfOk result (λ table. Fits schema.now table) }
     {
         let mut models = Vec::new(alloc);
-        for _model in schema.models.as_slice() {
+        for _model in schema.models() {
             models.push(ModelRows::new(alloc))?;
         }
         let schema = schema.copy(alloc)?;
@@ -87,7 +87,7 @@ impl Table {
     pub fn children(&self, assoc: Assoc, parent: u32) -> &[u32]
         ensures { result.now ≡ children_of self.now assoc.model assoc.has_many parent }
     {
-        let Some(model) = self.schema.models.get(assoc.model as usize) else {
+        let Some(model) = self.schema.model(assoc.model) else {
             return &[];
         };
         let Some(many) = model.has_many.get(assoc.has_many as usize) else {

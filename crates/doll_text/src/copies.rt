@@ -44,6 +44,12 @@ impl<T: Copied> Copied for Items<T> {
     }
 }
 
+impl<A: Copied, B: Copied> Copied for (A, B) {
+    fn copy(&self, alloc: Global) -> Result<(A, B), Memory> {
+        Ok((self.0.copy(alloc)?, self.1.copy(alloc)?))
+    }
+}
+
 /// An equal list.
 pub fn copy_list<T: Copied>(alloc: Global, items: &[T]) -> Result<Items<T>, Memory>
     ensures { IfOk result (λ copy. copy ≡ items.now) }

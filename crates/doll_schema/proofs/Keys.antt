@@ -5,6 +5,7 @@ use Rattle.std.proofs.lemmas.Bool.Decides.{same_from_decides, Decides-like, Deci
 use Rattle.std.proofs.lemmas.Slice.Eq.{bytes_eq-Decides}
 use Rattle.std.proofs.lemmas.List.{take-append-drop}
 use Rattle.std.proofs.Math.Seq.{take-append_seam, drop-append_seam}
+use Rattle.doll_schema.specs.Lookups.{key_name}
 
 -- a text ends in another where it is what stands before and that
 pub suffix_apart : (a k n : List ℕ) → length k ≤ length n → bytes_eq (a ++ k) n ≡ (bytes_eq (take (length n - length k) n) a && bytes_eq (drop (length n - length k) n) k)
@@ -22,7 +23,7 @@ suffix_apart a k n h =
         rw (size, sym e) (take-append_seam a k, drop-append_seam a k)
 
 -- the same of a foreign key's name, as its two parts are compared
-pub key_apart : (a n b : List ℕ) (r t : Bool) → 3 ≤ length n → t ≡ not (bytes_eq (take (length n - 3) n) a) → t ≡ false → r ≡ bytes_eq (take (length n - (length n - 3)) (drop (length n - 3) n)) b → b ≡ codes "_id" → r ≡ bytes_eq (a ++ codes "_id") n
+pub key_apart : (a n b : List ℕ) (r t : Bool) → 3 ≤ length n → t ≡ not (bytes_eq (take (length n - 3) n) a) → t ≡ false → r ≡ bytes_eq (take (length n - (length n - 3)) (drop (length n - 3) n)) b → b ≡ codes "_id" → r ≡ bytes_eq (key_name a) n
 key_apart a n b r t h front same back end =
     let whole : take (length n - (length n - 3)) (drop (length n - 3) n) ≡ drop (length n - 3) n = take_all (length n - (length n - 3)) (drop (length n - 3) n) (omega (arith, length-drop (length n - 3) n)) in
     let apart = suffix_apart a (codes "_id") n h in
