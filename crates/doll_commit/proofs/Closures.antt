@@ -1,24 +1,20 @@
--- A walk over records from one to the next has exactly the records of the closure.
-use Rattle.std.proofs.Common.{◌≡◌, ℕ, zero, suc, ◌+◌, ◌-◌, ◌<◌, ◌≤◌, Bool, true, false, cond, ◌||◌, List, [], ◌∷◌, ◌++◌, map, length, get_or, take, None, Some, IsSome, is_some, eqb, ltb, refl, sym, ◌∙◌, ap, subst, arith, ◌⊎◌, inl, inr, append_assoc}
+-- The records of a list, and the closure of some under steps from one to the next.
+use Rattle.std.proofs.Common.{◌≡◌, ℕ, zero, suc, ◌+◌, ◌<◌, ◌≤◌, Bool, true, false, cond, ◌||◌, List, [], ◌∷◌, ◌++◌, map, length, get_or, IsSome, is_some, eqb, refl, sym, ◌∙◌, ap, subst, arith, ◌⊎◌, inl, inr, append_assoc}
 use Rattle.std.specs.Prelude.{slice_get}
 use Rattle.std.specs.Fn.{iterate}
-use Rattle.std.specs.List.{list_any, flat_map, IsDistinct}
+use Rattle.std.specs.List.{list_any, flat_map}
 use Rattle.std.specs.Cmp.{IsEquivalence}
 use Rattle.std.specs.Option.{option_map_or}
 use Rattle.std.specs.Ordering.{nat_cmp, eq_by_cmp}
 use Rattle.std.specs.FinMap as finite
-use Rattle.std.proofs.lemmas.Bool.{true≢false, or_cases, or_left, or_right, and_parts, eqb-true, ltb-true, ltb-false, cases_lt}
+use Rattle.std.proofs.lemmas.Bool.{true≢false, or_cases, or_left, or_right, and_parts, eqb-true, cases_lt}
 use Rattle.std.proofs.lemmas.Bool.Decides.{nat_tests}
 use Rattle.std.proofs.lemmas.Cmp.{and_equiv, on_equiv, nat_eq_equiv}
-use Rattle.std.proofs.lemmas.List.{append-nil, length-append, length-map, length_push, take_more, take_all, take-append-le, get_or_append_left, get_or_push, get_or_default}
-use Rattle.std.proofs.lemmas.Option.{slice_get_within, get_or_from_slice_get, none-some}
-use Rattle.std.proofs.lemmas.List.Concat.{flat_map-append}
+use Rattle.std.proofs.lemmas.List.{append-nil, length-append, length-map}
 use Rattle.std.proofs.lemmas.List.Folds.{list_any-append, list_any_at}
-use Rattle.std.proofs.lemmas.Map.Keys.{IsDistinct-push, IsDistinct-tail}
-use Rattle.std.proofs.lemmas.Map.Made.{length-le_from_is_member}
 use Rattle.doll_schema.specs.declared.value.Row.{Row}
 use Rattle.doll_table.specs.Tables.{Extent, TableMap, row_of}
-use Rattle.doll_commit.specs.Records.{Ref, is_ref, has, with_ref, with_refs, SameRefs, count_of, with_next, closure}
+use Rattle.doll_commit.specs.Refs.{Ref, is_ref, has, with_ref, with_refs, SameRefs, count_of, with_next, closure}
 
 pub same_bool : (a b : Bool) → (a ≡ true → b ≡ true) → (b ≡ true → a ≡ true) → a ≡ b
 same_bool true true f g = refl
@@ -92,188 +88,147 @@ from_next next (y ∷ xs) r h = by_cases (λ t. from_next next xs r t) (has_case
 pub next_within : (next : Ref → List Ref) (xs ys : List Ref) → Within xs ys → Within (flat_map next xs) (flat_map next ys)
 next_within next xs ys w r h = let found = from_next next xs r h in has_next next ys found.0 r (w found.0 found.1) found.2
 
--- the steps made so often
-
-iterate_more : {A : Type 0} (f : A → A) (n : ℕ) (x : A) → iterate f (suc n) x ≡ f (iterate f n x)
-iterate_more f zero x = refl
-iterate_more f (suc n) x = iterate_more f n (f x)
-
-step_is : (next : Ref → List Ref) (n : ℕ) (xs : List Ref) (r : Ref) → has (iterate (with_next next) (suc n) xs) r ≡ has (iterate (with_next next) n xs ++ flat_map next (iterate (with_next next) n xs)) r
-step_is next n xs r = ap (λ ys. has ys r) (iterate_more (with_next next) n xs)
-
-stays : (next : Ref → List Ref) (n m k : ℕ) (xs : List Ref) → k ≡ m + n → Within (iterate (with_next next) n xs) (iterate (with_next next) k xs)
-stays next n zero k xs e r h = let same : n ≡ k = omega arith in ap (λ j. has (iterate (with_next next) j xs) r) (sym same) ∙ h
-stays next n (suc m) k xs e r h =
-    let one : suc (m + n) ≡ k = omega arith in
-    ap (λ j. has (iterate (with_next next) j xs) r) (sym one)
-    ∙ (step_is next (m + n) xs r ∙ has_left (iterate (with_next next) (m + n) xs) (flat_map next (iterate (with_next next) (m + n) xs)) r (stays next n m (m + n) xs refl r h))
-
-pub stays_within : (next : Ref → List Ref) (n k : ℕ) (xs : List Ref) → n ≤ k → Within (iterate (with_next next) n xs) (iterate (with_next next) k xs)
-stays_within next n k xs l = stays next n (k - n) k xs (omega arith)
-
--- the steps never leave records that are closed under them
-pub inside : (next : Ref → List Ref) (xs all : List Ref) → Within xs all → Within (flat_map next all) all → (n : ℕ) → Within (iterate (with_next next) n xs) all
-inside next xs all starts closed zero r h = starts r h
-inside next xs all starts closed (suc n) r h = by_cases (inside next xs all starts closed n) (has_cases (iterate (with_next next) n xs) (flat_map next (iterate (with_next next) n xs)) r (sym (step_is next n xs r) ∙ h))
+-- what holds of records and goes on by steps holds of all that steps lead to
+pub iterate_all : (P : Ref → Type 0) (next : Ref → List Ref) → ((q r : Ref) → P q → has (next q) r ≡ true → P r) → (n : ℕ) (xs : List Ref) → ((r : Ref) → has xs r ≡ true → P r) → (r : Ref) → has (iterate (with_next next) n xs) r ≡ true → P r
+iterate_all P next step zero xs first r h = first r h
+iterate_all P next step (suc n) xs first r h = iterate_all P next step n (with_next next xs) (λ q k. more q (has_cases xs (flat_map next xs) q k)) r h
   where
-    by_cases : Within (iterate (with_next next) n xs) all → (has (iterate (with_next next) n xs) r ≡ true) ⊎ (has (flat_map next (iterate (with_next next) n xs)) r ≡ true) → has all r ≡ true
-    by_cases before (inl t) = before r t
-    by_cases before (inr t) = closed r (next_within next (iterate (with_next next) n xs) all before r t)
+    more : (q : Ref) → (has xs q ≡ true) ⊎ (has (flat_map next xs) q ≡ true) → P q
+    more q (inl k) = first q k
+    more q (inr k) = let from = from_next next xs q k in step from.0 q (first from.0 from.1) from.2
 
--- the living records of a table
+pub iterate_begins : (next : Ref → List Ref) (n : ℕ) (xs : List Ref) → Within xs (iterate (with_next next) n xs)
+iterate_begins next zero xs r h = h
+iterate_begins next (suc n) xs r h = iterate_begins next n (with_next next xs) r (has_left xs (flat_map next xs) r h)
 
-living_from : ℕ → List Extent → List Ref
-living_from model [] = []
-living_from model (extent ∷ extents) = map (λ id. (model, id)) (finite.keys extent.rows) ++ living_from (suc model) extents
+-- the living records of extents, of which the first has a number
+abbrev pub living_from : ℕ → List Extent → List Ref
+living_from m [] = []
+living_from m (e ∷ es) = map (λ id. (m, id)) (finite.keys e.rows) ++ living_from (m + 1) es
 
-length-living : (model : ℕ) (extents : List Extent) → length (living_from model extents) ≡ count_of extents
-unfolding living_from
-length-living model [] = refl
-length-living model (extent ∷ extents) =
-    length-append (map (λ (id : ℕ). (model, id)) (finite.keys extent.rows)) (living_from (suc model) extents)
-    ∙ (ap (λ n. n + length (living_from (suc model) extents)) (length-map (finite.keys extent.rows) (λ (id : ℕ). (model, id))) ∙ ap (λ n. length (finite.keys extent.rows) + n) (length-living (suc model) extents))
+length_living : (m : ℕ) (es : List Extent) → length (living_from m es) ≡ count_of es
+length_living m [] = refl
+length_living m (e ∷ es) =
+    length-append (map (λ id. (m, id)) (finite.keys e.rows)) (living_from (m + 1) es)
+    ∙ (ap (λ n. n + length (living_from (m + 1) es)) (length-map (finite.keys e.rows) (λ id. (m, id))) ∙ ap (λ n. length (finite.keys e.rows) + n) (length_living (m + 1) es))
 
-has_id : (model id : ℕ) (ids : List ℕ) → list_any (eq_by_cmp nat_cmp id) ids ≡ true → has (map (λ i. (model, i)) ids) (model, id) ≡ true
-has_id model id [] h = absurd (true≢false (sym h))
-has_id model id (i ∷ ids) h = by_cases (has_id model id ids) (or_cases (eq_by_cmp nat_cmp id i) (list_any (eq_by_cmp nat_cmp id) ids) h)
+is_test : (a b : ℕ) → eq_by_cmp nat_cmp a b ≡ eqb a b
+is_test a b = grind (arith, nat_tests)
+
+itself : (a : ℕ) → eqb a a ≡ true
+itself a = grind (arith, nat_tests)
+
+has_key : (m id : ℕ) (ks : List ℕ) → list_any (eq_by_cmp nat_cmp id) ks ≡ has (map (λ k. (m, k)) ks) (m, id)
+has_key m id [] = refl
+has_key m id (k ∷ ks) = rw (has_key m id ks, is_test id k, itself m) refl
+
+-- the rows of a model in a list of extents
+abbrev rows_at : List Extent → ℕ → finite.FinMap nat_cmp Row
+rows_at es i = option_map_or (λ (e : Extent). e.rows) (slice_get es i) finite.empty
+
+lives_in : (es : List Extent) (m i n id : ℕ) → n ≡ m + i → is_some (finite.get (rows_at es i) id) ≡ true → has (living_from m es) (n, id) ≡ true
+lives_in [] m i n id e h = let none = finite.get-empty {X = Row} nat_cmp id in absurd (cc (none, h))
+lives_in (x ∷ es) m zero n id e h =
+    let at : n ≡ m = omega arith in
+    has_left (map (λ k. (m, k)) (finite.keys x.rows)) (living_from (m + 1) es) (n, id)
+    (subst (λ a. has (map (λ k. (m, k)) (finite.keys x.rows)) (a, id) ≡ true) (sym at) (sym (has_key m id (finite.keys x.rows)) ∙ (sym (finite.contains_key-keys x.rows id) ∙ h)))
+lives_in (x ∷ es) m (suc i) n id e h = has_right (map (λ k. (m, k)) (finite.keys x.rows)) (living_from (m + 1) es) (n, id) (lives_in es (m + 1) i n id (omega arith) h)
+
+-- a living record is among all
+pub lives_among : (table : TableMap) (r : Ref) → IsSome (row_of table r.0 r.1) → has (living_from 0 table.extents) r ≡ true
+lives_among table r h = lives_in table.extents 0 r.0 r.0 r.1 (omega arith) h
+
+-- how many records of a list are not among others
+abbrev missing : List Ref → List Ref → ℕ
+missing refs [] = 0
+missing refs (r ∷ rs) = cond (has refs r) 0 1 + missing refs rs
+
+missing_within : (refs all : List Ref) → missing refs all ≤ length all
+missing_within refs [] = omega arith
+missing_within refs (r ∷ rs) = by_test (has refs r) (missing_within refs rs)
   where
-    same : eq_by_cmp nat_cmp id i ≡ true → is_ref (model, id) (model, i) ≡ true
-    same t = grind (arith, nat_tests)
+    by_test : (b : Bool) → missing refs rs ≤ length rs → cond b 0 1 + missing refs rs ≤ length (r ∷ rs)
+    by_test true l = omega arith
+    by_test false l = omega arith
 
-    by_cases : (list_any (eq_by_cmp nat_cmp id) ids ≡ true → has (map (λ i. (model, i)) ids) (model, id) ≡ true) → (eq_by_cmp nat_cmp id i ≡ true) ⊎ (list_any (eq_by_cmp nat_cmp id) ids ≡ true) → has (map (λ i. (model, i)) (i ∷ ids)) (model, id) ≡ true
-    by_cases behind (inl t) = or_left (is_ref (model, id) (model, i)) (has (map (λ i. (model, i)) ids) (model, id)) (same t)
-    by_cases behind (inr t) = or_right (is_ref (model, id) (model, i)) (has (map (λ i. (model, i)) ids) (model, id)) (behind t)
-
-none_lives : (id : ℕ) → is_some (finite.get (let none : finite.FinMap nat_cmp Row = finite.empty in none) id) ≡ true → ⊥
-none_lives id h = true≢false (sym h ∙ ap is_some (finite.get-empty nat_cmp id))
-
-has_living : (first at id model : ℕ) (extents : List Extent) → model ≡ at + first → is_some (finite.get (option_map_or (λ (x : Extent). x.rows) (slice_get extents at) finite.empty) id) ≡ true → has (living_from first extents) (model, id) ≡ true
-unfolding living_from
-has_living first at id model [] e h = absurd (none_lives id h)
-has_living first zero id model (extent ∷ extents) e h =
-    let same : first ≡ model = omega arith in
-    has_left (map (λ i. (first, i)) (finite.keys extent.rows)) (living_from (suc first) extents) (model, id)
-    (ap (λ m. has (map (λ i. (first, i)) (finite.keys extent.rows)) (m, id)) (sym same) ∙ has_id first id (finite.keys extent.rows) (sym (finite.contains_key-keys extent.rows id) ∙ h))
-has_living first (suc at) id model (extent ∷ extents) e h =
-    has_right (map (λ i. (first, i)) (finite.keys extent.rows)) (living_from (suc first) extents) (model, id) (has_living (suc first) at id model extents (omega arith) h)
-
--- records that live and differ are at most as many as rows live
-pub length-le_from_living : (table : TableMap) (xs : List Ref) → IsDistinct is_ref xs → ((r : Ref) → has xs r ≡ true → IsSome (row_of table r.0 r.1)) → length xs ≤ count_of table.extents
-length-le_from_living table xs apart lives =
-    let few = length-le_from_is_member is_ref_equiv xs (living_from 0 table.extents) apart
-    (λ r h. has_living 0 r.0 r.1 r.0 table.extents (omega arith) (lives r h)) in
-    omega (arith, few, length-living 0 table.extents)
-
--- a walk: the seeds, then in the order found the living records that steps from earlier ones lead to, each once; the
--- steps from the first so many records are made
-
-pub record IsWalk (next : Ref → List Ref) (table : TableMap) (seeds all : List Ref) (at : ℕ) : Type 0 where
-  pub found : List Ref
-  pub begins : all ≡ seeds ++ found
-  pub apart : IsDistinct is_ref all
-  pub comes : (k : ℕ) (d : Ref) → k < length found → has (flat_map next (seeds ++ take k found)) (get_or found k d) ≡ true
-  pub lives : (r : Ref) → has found r ≡ true → IsSome (row_of table r.0 r.1)
-  pub closed : Within (flat_map next (take at all)) all
-
-pub walk_begins : (next : Ref → List Ref) (table : TableMap) (seeds : List Ref) → IsDistinct is_ref seeds → IsWalk next table seeds seeds 0
-walk_begins next table seeds apart = record {
-  found = [];
-  begins = sym (append-nil seeds);
-  apart = apart;
-  comes = λ k d l. absurd (omega arith);
-  lives = λ r h. absurd (true≢false (sym h));
-  closed = λ r h. absurd (true≢false (sym h));
-}
-
-distinct_behind : (xs ys : List Ref) → IsDistinct is_ref (xs ++ ys) → IsDistinct is_ref ys
-distinct_behind [] ys d = d
-distinct_behind (x ∷ xs) ys d = distinct_behind xs ys (IsDistinct-tail is_ref x (xs ++ ys) d)
-
--- a walk is no longer than its seeds and the living rows
-pub walk_is_short : (next : Ref → List Ref) (table : TableMap) (seeds all : List Ref) (at : ℕ) → IsWalk next table seeds all at → length all ≤ length seeds + count_of table.extents
-walk_is_short next table seeds all at walk =
-    let few = length-le_from_living table walk.found (distinct_behind seeds walk.found (subst (λ ys. IsDistinct is_ref ys) walk.begins walk.apart)) walk.lives in
-    omega (arith, few, ap length walk.begins, length-append seeds walk.found)
-
--- the k-th record found is there once the step is made k times
-reached : (next : Ref → List Ref) (table : TableMap) (seeds all : List Ref) (at : ℕ) (walk : IsWalk next table seeds all at) (k : ℕ) → k ≤ length walk.found → Within (seeds ++ take k walk.found) (iterate (with_next next) k seeds)
-reached next table seeds all at walk zero l r h = ap (λ ys. has ys r) (sym (append-nil seeds)) ∙ h
-reached next table seeds all at walk (suc k) l r h =
-    by_cases (reached next table seeds all at walk k (omega arith)) (has_cases (seeds ++ take k walk.found) (get_or walk.found k r ∷ []) r
-    (ap (λ ys. has ys r) (append_assoc seeds (take k walk.found) (get_or walk.found k r ∷ []) ∙ ap (λ ys. seeds ++ ys) (sym more)) ∙ h))
+-- more records miss fewer
+fewer : (refs more all : List Ref) → ((r : Ref) → has refs r ≡ true → has more r ≡ true) → missing more all ≤ missing refs all
+fewer refs more [] sub = omega arith
+fewer refs more (x ∷ xs) sub = by_tests (has refs x) (has more x) refl refl (fewer refs more xs sub)
   where
-    more : take (suc k) walk.found ≡ take k walk.found ++ get_or walk.found k r ∷ []
-    more = let e : k + 1 ≡ suc k = omega arith in ap (λ n. take n walk.found) (sym e) ∙ take_more walk.found k r (omega arith)
+    by_tests : (a b : Bool) → has refs x ≡ a → has more x ≡ b → missing more xs ≤ missing refs xs → cond b 0 1 + missing more xs ≤ cond a 0 1 + missing refs xs
+    by_tests true true s t l = omega arith
+    by_tests false true s t l = omega arith
+    by_tests true false s t l = let yes = sub x s in absurd (cc)
+    by_tests false false s t l = omega arith
 
-    before : List Ref
-    before = iterate (with_next next) k seeds
-
-    by_cases : Within (seeds ++ take k walk.found) before → (has (seeds ++ take k walk.found) r ≡ true) ⊎ (has (get_or walk.found k r ∷ []) r ≡ true) → has (iterate (with_next next) (suc k) seeds) r ≡ true
-    by_cases earlier (inl t) = step_is next k seeds r ∙ has_left before (flat_map next before) r (earlier r t)
-    by_cases earlier (inr t) =
-        step_is next k seeds r
-        ∙ has_right before (flat_map next before) r
-        (next_within next (seeds ++ take k walk.found) before earlier r (ap (has (flat_map next (seeds ++ take k walk.found))) (sym (has_one (get_or walk.found k r) r t)) ∙ walk.comes k r (omega arith)))
-
--- a walk whose steps are all made has the records of the closure
-pub walk_closes : (next : Ref → List Ref) (table : TableMap) (seeds all : List Ref) → IsWalk next table seeds all (length all) → SameRefs all (closure next table seeds)
-walk_closes next table seeds all walk r = same_bool (has all r) (has (closure next table seeds) r) out into
+-- where they miss as many, the others had what they have
+had : (refs more all : List Ref) → ((r : Ref) → has refs r ≡ true → has more r ≡ true) → missing more all ≡ missing refs all → (r : Ref) → has all r ≡ true → has more r ≡ true → has refs r ≡ true
+had refs more [] sub e r h k = absurd (cc h)
+had refs more (x ∷ xs) sub e r h k = elim (or_cases (is_ref r x) (has xs r) h) [
+  | inl is ↦ subst (λ y. has refs y ≡ true) (sym (is_ref-true r x is)) (by_head (has refs x) (has more x) refl refl (fewer refs more xs sub) e (subst (λ y. has more y ≡ true) (is_ref-true r x is) k))
+  | inr later ↦ had refs more xs sub (rest (has refs x) (has more x) refl refl (fewer refs more xs sub) e) r later k
+]
   where
-    whole : take (length all) all ≡ all
-    whole = take_all (length all) all (omega arith)
+    by_head : (a b : Bool) → has refs x ≡ a → has more x ≡ b → missing more xs ≤ missing refs xs → cond b 0 1 + missing more xs ≡ cond a 0 1 + missing refs xs → has more x ≡ true → has refs x ≡ true
+    by_head true b s t l e there = s
+    by_head false true s t l e there = absurd (omega arith)
+    by_head false false s t l e there = absurd (cc)
 
-    closed : Within (flat_map next all) all
-    closed q h = walk.closed q (ap (λ ys. has (flat_map next ys) q) whole ∙ h)
+    rest : (a b : Bool) → has refs x ≡ a → has more x ≡ b → missing more xs ≤ missing refs xs → cond b 0 1 + missing more xs ≡ cond a 0 1 + missing refs xs → missing more xs ≡ missing refs xs
+    rest true true s t l e = omega arith
+    rest true false s t l e = let yes = sub x s in absurd (cc)
+    rest false true s t l e = absurd (omega arith)
+    rest false false s t l e = omega arith
 
-    starts : Within seeds all
-    starts q h = ap (λ ys. has ys q) walk.begins ∙ has_left seeds walk.found q h
+-- a step leads from these records to none but these
+pub record IsClosed (next : Ref → List Ref) (refs : List Ref) : Type 0 where
+  pub under : (r p : Ref) → has refs r ≡ true → has (next r) p ≡ true → has refs p ≡ true
 
-    into : has (closure next table seeds) r ≡ true → has all r ≡ true
-    into h = inside next seeds all starts closed (count_of table.extents) r h
-
-    out : has all r ≡ true → has (closure next table seeds) r ≡ true
-    out h =
-        stays_within next (length walk.found) (count_of table.extents) seeds (omega (arith, walk_is_short next table seeds all (length all) walk, ap length walk.begins, length-append seeds walk.found)) r
-        (reached next table seeds all (length all) walk (length walk.found) (omega arith) r
-        (ap (λ ys. has (seeds ++ ys) r) (take_all (length walk.found) walk.found (omega arith)) ∙ (ap (λ ys. has ys r) (sym walk.begins) ∙ h)))
-
--- a record that is added, and several
-
-pub within_with : (xs : List Ref) (x : Ref) → Within xs (with_ref xs x)
-within_with xs x r h = by_test (has xs x)
+-- these and those that a step leads to are no others, where these are closed
+closed_more : (next : Ref → List Ref) (refs : List Ref) → IsClosed next refs → (r : Ref) → has (with_next next refs) r ≡ true → has refs r ≡ true
+closed_more next refs c r h = elim (has_cases refs (flat_map next refs) r h) [ inl k ↦ k | inr k ↦ led (from_next next refs r k) ]
   where
-    by_test : (b : Bool) → has (cond b xs (xs ++ x ∷ [])) r ≡ true
-    by_test true = h
-    by_test false = has_left xs (x ∷ []) r h
+    led : (q : Ref) × (has refs q ≡ true) × (has (next q) r ≡ true) → has refs r ≡ true
+    led w = c.under w.0 r w.1 w.2
 
-pub has_with : (xs : List Ref) (x : Ref) → has (with_ref xs x) x ≡ true
-has_with xs x = by_test (has xs x) refl
+closed_next : (next : Ref → List Ref) (refs : List Ref) → IsClosed next refs → IsClosed next (with_next next refs)
+closed_next next refs c = record { under = λ r p h k. has_left refs (flat_map next refs) p (c.under r p (closed_more next refs c r h) k) }
+
+closed_stays : (next : Ref → List Ref) (n : ℕ) (refs : List Ref) → IsClosed next refs → IsClosed next (iterate (with_next next) n refs)
+closed_stays next zero refs c = c
+closed_stays next (suc n) refs c = closed_stays next n (with_next next refs) (closed_next next refs c)
+
+-- the records between two steps live
+abbrev pub LivesBetween : (Ref → List Ref) → TableMap → Type 0
+LivesBetween next table = (q r p : Ref) → has (next q) r ≡ true → has (next r) p ≡ true → IsSome (row_of table r.0 r.1)
+
+-- a step that adds no living record led to all
+closed_from : (next : Ref → List Ref) (all : List Ref) → ((q r p : Ref) → has (next q) r ≡ true → has (next r) p ≡ true → has all r ≡ true) → (refs : List Ref) → missing (with_next next refs) all ≡ missing refs all → IsClosed next (with_next next refs)
+closed_from next all between refs e = record { under = λ r p h k. has_right refs (flat_map next refs) p (has_next next refs r p (was r p k (has_cases refs (flat_map next refs) r h)) k) }
   where
-    by_test : (b : Bool) → has xs x ≡ b → has (cond b xs (xs ++ x ∷ [])) x ≡ true
-    by_test true t = t
-    by_test false t = has_right xs (x ∷ []) x (has_itself x)
+    was : (r p : Ref) → has (next r) p ≡ true → (has refs r ≡ true) ⊎ (has (flat_map next refs) r ≡ true) → has refs r ≡ true
+    was r p k (inl h) = h
+    was r p k (inr h) =
+        let from = from_next next refs r h in
+        had refs (with_next next refs) all (λ q. has_left refs (flat_map next refs) q) e r (between from.0 r p from.2 k) (has_right refs (flat_map next refs) r h)
 
-pub with_cases : (xs : List Ref) (x r : Ref) → has (with_ref xs x) r ≡ true → (has xs r ≡ true) ⊎ (x ≡ r)
-with_cases xs x r = by_test (has xs x)
-  where
-    in_one : (has xs r ≡ true) ⊎ (has (x ∷ []) r ≡ true) → (has xs r ≡ true) ⊎ (x ≡ r)
-    in_one (inl t) = inl t
-    in_one (inr t) = inr (has_one x r t)
+-- steps more often than records are missing lead to all
+closed_by : (next : Ref → List Ref) (all : List Ref) → ((q r p : Ref) → has (next q) r ≡ true → has (next r) p ≡ true → has all r ≡ true) → (n : ℕ) (refs : List Ref) → missing refs all < n → IsClosed next (iterate (with_next next) n refs)
+closed_by next all between zero refs l = absurd (omega arith)
+closed_by next all between (suc n) refs l = elim (cases_lt (missing (with_next next refs) all) (missing refs all)) [
+  | inl less ↦ closed_by next all between n (with_next next refs) (omega arith)
+  | inr more ↦ (let f = fewer refs (with_next next refs) all (λ q. has_left refs (flat_map next refs) q) in
+      closed_stays next n (with_next next refs) (closed_from next all between refs (omega arith)))
+]
 
-    by_test : (b : Bool) → has (cond b xs (xs ++ x ∷ [])) r ≡ true → (has xs r ≡ true) ⊎ (x ≡ r)
-    by_test true h = inl h
-    by_test false h = in_one (has_cases xs (x ∷ []) r h)
+-- steps between living records lead to all that they can lead to
+pub closure_closed : (next : Ref → List Ref) (table : TableMap) → LivesBetween next table → (refs : List Ref) → IsClosed next (closure next table refs)
+closure_closed next table between refs =
+    closed_by next (living_from 0 table.extents) (λ q r p h k. lives_among table r (between q r p h k)) (count_of table.extents + 1) refs
+    (let few = missing_within refs (living_from 0 table.extents) in omega (arith, few, length_living 0 table.extents))
 
-pub distinct_with : (xs : List Ref) (x : Ref) → IsDistinct is_ref xs → IsDistinct is_ref (with_ref xs x)
-distinct_with xs x d = by_test (has xs x) refl
-  where
-    by_test : (b : Bool) → has xs x ≡ b → IsDistinct is_ref (cond b xs (xs ++ x ∷ []))
-    by_test true t = d
-    by_test false t = IsDistinct-push is_ref_equiv xs x d t
-
-pub distinct_with_all : (xs ys : List Ref) → IsDistinct is_ref xs → IsDistinct is_ref (with_refs xs ys)
-distinct_with_all xs [] d = d
-distinct_with_all xs (y ∷ ys) d = distinct_with_all (with_ref xs y) ys (distinct_with xs y d)
+-- records that are added, each once
 
 pub with_has : (xs : List Ref) (x r : Ref) → has (with_ref xs x) r ≡ has (xs ++ x ∷ []) r
 with_has xs x r = by_test (has xs x) refl (has r_in r) refl
@@ -303,98 +258,13 @@ with_all_has xs (y ∷ ys) r =
     with_all_has (with_ref xs y) ys r
     ∙ (has-append (with_ref xs y) ys r ∙ (ap (λ b. b || has ys r) (with_has xs y r) ∙ (sym (has-append (xs ++ y ∷ []) ys r) ∙ ap (λ zs. has zs r) (append_assoc xs (y ∷ []) ys))))
 
--- a walk with a record more, to which a step from one of its records leads
-walk_with_one : (next : Ref → List Ref) (table : TableMap) (seeds all : List Ref) (at : ℕ) (x r : Ref) → at ≤ length all → has all x ≡ true → has (next x) r ≡ true → IsSome (row_of table r.0 r.1) → has all r ≡ false → IsWalk next table seeds all at → IsWalk next table seeds (all ++ r ∷ []) at
-walk_with_one next table seeds all at x r l inn leads here new walk = record {
-  found = walk.found ++ r ∷ [];
-  begins = ap (λ ys. ys ++ r ∷ []) walk.begins ∙ append_assoc seeds walk.found (r ∷ []);
-  apart = IsDistinct-push is_ref_equiv all r walk.apart new;
-  comes = λ k d less. comes_at k d (cases_lt k (length walk.found)) less;
-  lives = λ q h. lives_at q (has_cases walk.found (r ∷ []) q h);
-  closed = λ q h. has_left all (r ∷ []) q (walk.closed q (ap (λ ys. has (flat_map next ys) q) (sym (take-append-le at all (r ∷ []) l)) ∙ h));
-}
-  where
-    last : (k : ℕ) → length walk.found ≤ k → k < length (walk.found ++ r ∷ []) → length walk.found ≡ k
-    last k low high = omega (arith, length_push walk.found r)
+-- a closure has the records that it begins with
+pub closure_begins : (next : Ref → List Ref) (table : TableMap) (xs : List Ref) → Within xs (closure next table xs)
+closure_begins next table xs = iterate_begins next (count_of table.extents + 1) xs
 
-    comes_at : (k : ℕ) (d : Ref) → (k < length walk.found) ⊎ (length walk.found ≤ k) → k < length (walk.found ++ r ∷ []) → has (flat_map next (seeds ++ take k (walk.found ++ r ∷ []))) (get_or (walk.found ++ r ∷ []) k d) ≡ true
-    comes_at k d (inl less) high =
-        ap (λ ys. has (flat_map next (seeds ++ ys)) (get_or (walk.found ++ r ∷ []) k d)) (take-append-le k walk.found (r ∷ []) (omega arith))
-        ∙ (ap (has (flat_map next (seeds ++ take k walk.found))) (get_or_append_left walk.found (r ∷ []) d k less) ∙ walk.comes k d less)
-    comes_at k d (inr more) high =
-        let e : length walk.found ≡ k = last k more high in
-        ap (λ ys. has (flat_map next (seeds ++ ys)) (get_or (walk.found ++ r ∷ []) k d)) (take-append-le k walk.found (r ∷ []) (omega arith) ∙ take_all k walk.found (omega arith))
-        ∙ (ap (has (flat_map next (seeds ++ walk.found))) (get_or_push walk.found r d k e) ∙ has_next next (seeds ++ walk.found) x r (ap (λ ys. has ys x) (sym walk.begins) ∙ inn) leads)
-
-    lives_at : (q : Ref) → (has walk.found q ≡ true) ⊎ (has (r ∷ []) q ≡ true) → IsSome (row_of table q.0 q.1)
-    lives_at q (inl t) = walk.lives q t
-    lives_at q (inr t) = subst (λ (p : Ref). IsSome (row_of table p.0 p.1)) (has_one r q t) here
-
-walk_with : (next : Ref → List Ref) (table : TableMap) (seeds all : List Ref) (at : ℕ) (x r : Ref) → at ≤ length all → has all x ≡ true → has (next x) r ≡ true → IsSome (row_of table r.0 r.1) → IsWalk next table seeds all at → IsWalk next table seeds (with_ref all r) at
-walk_with next table seeds all at x r l inn leads here walk = by_test (has all r) refl
-  where
-    by_test : (b : Bool) → has all r ≡ b → IsWalk next table seeds (cond b all (all ++ r ∷ [])) at
-    by_test true t = walk
-    by_test false t = walk_with_one next table seeds all at x r l inn leads here t walk
-
-no_shorter : (xs : List Ref) (x : Ref) → length xs ≤ length (with_ref xs x)
-no_shorter xs x = by_test (has xs x)
-  where
-    by_test : (b : Bool) → length xs ≤ length (cond b xs (xs ++ x ∷ []))
-    by_test true = omega arith
-    by_test false = omega (arith, length_push xs x)
-
-walk_with_all : (next : Ref → List Ref) (table : TableMap) (seeds all : List Ref) (at : ℕ) (x : Ref) (rs : List Ref) → at ≤ length all → has all x ≡ true → Within rs (next x) → ((r : Ref) → has (next x) r ≡ true → IsSome (row_of table r.0 r.1)) → IsWalk next table seeds all at → IsWalk next table seeds (with_refs all rs) at
-walk_with_all next table seeds all at x [] l inn leads living walk = walk
-walk_with_all next table seeds all at x (r ∷ rs) l inn leads living walk =
-    let first : has (next x) r ≡ true = leads r (or_left (is_ref r r) (has rs r) (is_ref_itself r)) in
-    walk_with_all next table seeds (with_ref all r) at x rs (omega (arith, no_shorter all r)) (within_with all r x inn) (λ q h. leads q (or_right (is_ref q r) (has rs q) h)) living
-    (walk_with next table seeds all at x r l inn first (living r first) walk)
-
-at_stays : (xs ys : List Ref) (k : ℕ) (d : Ref) → k < length xs → get_or (with_refs xs ys) k d ≡ get_or xs k d
-at_stays xs [] k d l = refl
-at_stays xs (y ∷ ys) k d l = at_stays (with_ref xs y) ys k d (omega (arith, no_shorter xs y)) ∙ by_test (has xs y)
-  where
-    by_test : (b : Bool) → get_or (cond b xs (xs ++ y ∷ [])) k d ≡ get_or xs k d
-    by_test true = refl
-    by_test false = get_or_append_left xs (y ∷ []) d k l
-
-no_shorter_all : (xs ys : List Ref) → length xs ≤ length (with_refs xs ys)
-no_shorter_all xs [] = omega arith
-no_shorter_all xs (y ∷ ys) = omega (arith, no_shorter xs y, no_shorter_all (with_ref xs y) ys)
-
--- a walk goes on: the step from its next record is made
-pub walk_goes_on : (next : Ref → List Ref) (table : TableMap) (seeds all : List Ref) (at : ℕ) (x : Ref) → at < length all → get_or all at x ≡ x → ((r : Ref) → has (next x) r ≡ true → IsSome (row_of table r.0 r.1)) → IsWalk next table seeds all at → IsWalk next table seeds (with_refs all (next x)) (at + 1)
-walk_goes_on next table seeds all at x l here living walk = record {
-  found = grown.found;
-  begins = grown.begins;
-  apart = grown.apart;
-  comes = grown.comes;
-  lives = grown.lives;
-  closed = λ r h. closed_at r (has_cases (flat_map next (take at larger)) (next x) r (ap (λ ys. has ys r) (sym split) ∙ h));
-}
-  where
-    larger : List Ref
-    larger = with_refs all (next x)
-
-    inn : has all x ≡ true
-    inn = ap (has all) (sym here) ∙ has_at all at x l
-
-    grown : IsWalk next table seeds larger at
-    grown = walk_with_all next table seeds all at x (next x) (omega arith) inn (λ r h. h) living walk
-
-    none : (ys : List Ref) → ys ++ [] ≡ ys
-    none ys = append-nil ys
-
-    split : flat_map next (take (at + 1) larger) ≡ flat_map next (take at larger) ++ next x
-    split =
-        ap (flat_map next) (take_more larger at x (omega (arith, no_shorter_all all (next x))))
-        ∙ (ap (λ y. flat_map next (take at larger ++ y ∷ [])) (at_stays all (next x) at x l ∙ here)
-        ∙ (flat_map-append next (take at larger) (x ∷ []) ∙ ap (λ ys. flat_map next (take at larger) ++ ys) (none (next x))))
-
-    closed_at : (r : Ref) → (has (flat_map next (take at larger)) r ≡ true) ⊎ (has (next x) r ≡ true) → has larger r ≡ true
-    closed_at r (inl t) = grown.closed r t
-    closed_at r (inr t) = with_all_has all (next x) r ∙ has_right all (next x) r t
+-- and none that isn't among records that have these and are closed
+pub closure_within : (next : Ref → List Ref) (table : TableMap) (xs all : List Ref) → Within xs all → IsClosed next all → Within (closure next table xs) all
+closure_within next table xs all first closed = iterate_all (λ r. has all r ≡ true) next (λ q r h k. closed.under q r h k) (count_of table.extents + 1) xs first
 
 -- closures from the same seeds
 
@@ -411,95 +281,9 @@ within_same xs ys same r h = sym (same r) ∙ h
 
 pub closure_same : (next : Ref → List Ref) (table : TableMap) (xs ys : List Ref) → SameRefs xs ys → SameRefs (closure next table xs) (closure next table ys)
 closure_same next table xs ys same r =
-    same_bool (has (closure next table xs) r) (has (closure next table ys) r) (iterate_within next (count_of table.extents) xs ys (within_same xs ys same) r)
-    (iterate_within next (count_of table.extents) ys xs (λ q h. same q ∙ h) r)
-
--- a walk by itself, where each step leads to living records
-
-explore : ℕ → (Ref → List Ref) → List Ref → ℕ → List Ref
-explore zero next all at = all
-explore (suc n) next all at = cond (ltb at (length all)) (explore n next (with_refs all (next (get_or all at (0, 0)))) (at + 1)) all
-
-at_end : (next : Ref → List Ref) (table : TableMap) (seeds all : List Ref) (at : ℕ) → length all ≤ at → IsWalk next table seeds all at → IsWalk next table seeds all (length all)
-at_end next table seeds all at l walk = record {
-  found = walk.found;
-  begins = walk.begins;
-  apart = walk.apart;
-  comes = walk.comes;
-  lives = walk.lives;
-  closed = λ r h. walk.closed r (ap (λ ys. has (flat_map next ys) r) (take_all at all l ∙ sym (take_all (length all) all (omega arith))) ∙ h);
-}
-
-explored : (next : Ref → List Ref) (table : TableMap) (seeds : List Ref) (living : (x r : Ref) → has (next x) r ≡ true → IsSome (row_of table r.0 r.1)) (n : ℕ) (all : List Ref) (at : ℕ) → length seeds + count_of table.extents ≤ n + at → IsWalk next table seeds all at
-    → IsWalk next table seeds (explore n next all at) (length (explore n next all at))
-unfolding explore
-explored next table seeds living zero all at l walk = at_end next table seeds all at (omega (arith, walk_is_short next table seeds all at walk)) walk
-explored next table seeds living (suc n) all at l walk = by_test (ltb at (length all)) refl (λ less. explored next table seeds living n larger (at + 1) (omega arith) (goes_on less))
-  where
-    here : Ref
-    here = get_or all at (0, 0)
-
-    larger : List Ref
-    larger = with_refs all (next here)
-
-    goes_on : at < length all → IsWalk next table seeds larger (at + 1)
-    goes_on less = walk_goes_on next table seeds all at here less (get_or_default all at here (0, 0) less) (living here) walk
-
-    by_test : (b : Bool) → ltb at (length all) ≡ b → (at < length all → IsWalk next table seeds (explore n next larger (at + 1)) (length (explore n next larger (at + 1))))
-        → IsWalk next table seeds (cond b (explore n next larger (at + 1)) all) (length (cond b (explore n next larger (at + 1)) all))
-    by_test true t on = on (ltb-true at (length all) t)
-    by_test false t on = at_end next table seeds all at (ltb-false at (length all) t) walk
-
--- the closure is closed under steps that lead to living records
-pub closure_is_closed : (next : Ref → List Ref) (table : TableMap) (xs : List Ref) → ((x r : Ref) → has (next x) r ≡ true → IsSome (row_of table r.0 r.1)) → Within (flat_map next (closure next table xs)) (closure next table xs)
-unfolding IsDistinct
-closure_is_closed next table xs living r h = same r ∙ closed
-  where
-    seeds : List Ref
-    seeds = with_refs [] xs
-
-    enough : ℕ
-    enough = length seeds + count_of table.extents
-
-    all : List Ref
-    all = explore enough next seeds 0
-
-    walk : IsWalk next table seeds all (length all)
-    walk = explored next table seeds living enough seeds 0 (omega arith) (walk_begins next table seeds (distinct_with_all [] xs tt))
-
-    same : SameRefs (closure next table xs) all
-    same q = closure_same next table xs seeds (λ p. sym (with_all_has [] xs p)) q ∙ sym (walk_closes next table seeds all walk q)
-
-    closed : has all r ≡ true
-    closed =
-        walk.closed r (ap (λ ys. has (flat_map next ys) r) (take_all (length all) all (omega arith))
-        ∙ next_within next (closure next table xs) all (within_same (closure next table xs) all same) r h)
-
--- and has the records that it begins with
-pub closure_begins : (next : Ref → List Ref) (table : TableMap) (xs : List Ref) → Within xs (closure next table xs)
-closure_begins next table xs = stays_within next 0 (count_of table.extents) xs (omega arith)
-
--- a walk by the answers of a look at its next record
-
-pub walk_at : (next : Ref → List Ref) (table : TableMap) (seeds all : List Ref) (at : ℕ) (x : Ref) → slice_get all at ≡ Some x → ((r : Ref) → has (next x) r ≡ true → IsSome (row_of table r.0 r.1)) → IsWalk next table seeds all at → IsWalk next table seeds (with_refs all (next x)) (at + 1)
-walk_at next table seeds all at x here living walk = walk_goes_on next table seeds all at x (slice_get_within all at x here) (get_or_from_slice_get all at x x here) living walk
-
-none_left : (all : List Ref) (at : ℕ) → slice_get all at ≡ None → length all ≤ at
-none_left [] at e = omega arith
-none_left (x ∷ all) zero e = absurd (none-some x (sym e))
-none_left (x ∷ all) (suc at) e = omega (arith, none_left all at e)
-
-pub walk_ends : (next : Ref → List Ref) (table : TableMap) (seeds all : List Ref) (at : ℕ) → slice_get all at ≡ None → IsWalk next table seeds all at → SameRefs all (closure next table seeds)
-walk_ends next table seeds all at none walk = walk_closes next table seeds all (at_end next table seeds all at (none_left all at none) walk)
+    same_bool (has (closure next table xs) r) (has (closure next table ys) r) (iterate_within next (count_of table.extents + 1) xs ys (within_same xs ys same) r)
+    (iterate_within next (count_of table.extents + 1) ys xs (λ q h. same q ∙ h) r)
 
 -- what holds of the records that it begins with and of those that steps lead to holds of all
 pub closure_all : (P : Ref → Type 0) (next : Ref → List Ref) (table : TableMap) (xs : List Ref) → ((r : Ref) → has xs r ≡ true → P r) → ((x r : Ref) → has (next x) r ≡ true → P r) → (r : Ref) → has (closure next table xs) r ≡ true → P r
-closure_all P next table xs first later = iterate_all (count_of table.extents) xs first
-  where
-    step_all : (ys : List Ref) → ((r : Ref) → has ys r ≡ true → P r) → (r : Ref) → (has ys r ≡ true) ⊎ (has (flat_map next ys) r ≡ true) → P r
-    step_all ys holds r (inl h) = holds r h
-    step_all ys holds r (inr h) = let found = from_next next ys r h in later found.0 r found.2
-
-    iterate_all : (n : ℕ) (ys : List Ref) → ((r : Ref) → has ys r ≡ true → P r) → (r : Ref) → has (iterate (with_next next) n ys) r ≡ true → P r
-    iterate_all zero ys holds r h = holds r h
-    iterate_all (suc n) ys holds r h = iterate_all n (with_next next ys) (λ q k. step_all ys holds q (has_cases ys (flat_map next ys) q k)) r h
+closure_all P next table xs first later = iterate_all P next (λ q r p h. later q r h) (count_of table.extents + 1) xs first

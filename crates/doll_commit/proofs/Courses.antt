@@ -16,7 +16,7 @@ use Rattle.doll_table.specs.Tables.{Extent, TableMap, row_of, next_of, put_row, 
 use Rattle.doll_table.proofs.Growing.{row_of_put, row_of_next, row_of_without}
 use Rattle.doll_commit.specs.declared.fault.Why.{Why}
 use Rattle.doll_commit.specs.declared.fault.Why.TheVariants as why
-use Rattle.doll_commit.specs.Records.{Ref, is_ref, has}
+use Rattle.doll_commit.specs.Refs.{Ref, is_ref, has}
 use Rattle.doll_commit.specs.Given.{Given}
 use Rattle.doll_commit.specs.Removed.{removed_with, is_restricted, without_rows}
 use Rattle.doll_commit.specs.Changes.{Made, model_of, living, created_row, updated_row, create, update, destroy_all, destroy, touch, made}

@@ -8,7 +8,7 @@ use Rattle.doll_commit.specs.declared.fault.Why.TheVariants as why
 use Rattle.doll_commit.specs.declared.fault.CommitFault.{CommitFault}
 use Rattle.doll_commit.specs.declared.fault.CommitFault.TheVariants as fault
 use Rattle.doll_commit.specs.declared.apply.Applied.{Applied}
-use Rattle.doll_commit.specs.Records.{Ref, SameRefs}
+use Rattle.doll_commit.specs.Refs.{Ref, SameRefs}
 use Rattle.doll_commit.specs.Commits.{touch_parents, Course, all_made, touched_set, finished, commit_of}
 use Rattle.doll_commit.proofs.Closures.{closure_same}
 use Rattle.doll_commit.proofs.Stamps.{same_stamped}

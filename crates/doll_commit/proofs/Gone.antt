@@ -12,7 +12,7 @@ use Rattle.doll_schema.specs.declared.model.HasMany.{HasMany}
 use Rattle.doll_schema.specs.declared.model.Model.{Model}
 use Rattle.doll_schema.specs.declared.model.Schema.{Schema}
 use Rattle.doll_table.specs.Tables.{TableMap, row_of, rows_in, names_parent, ids_under}
-use Rattle.doll_commit.specs.Records.{Ref, is_ref, has}
+use Rattle.doll_commit.specs.Refs.{Ref, is_ref, has}
 use Rattle.doll_commit.specs.Removed.{children_under, dependents}
 use Rattle.doll_commit.proofs.Closures.{is_ref-true, has_cases}
 

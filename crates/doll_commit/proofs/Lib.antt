@@ -10,7 +10,6 @@ pub mod Moments
 pub mod Ordered
 pub mod Pairs
 pub mod Pushes
-pub mod Reached
 pub mod Removing
 pub mod Stamps
 pub mod Walks

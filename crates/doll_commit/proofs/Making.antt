@@ -17,7 +17,7 @@ use Rattle.doll_commit.specs.declared.fault.Why.{Why}
 use Rattle.doll_commit.specs.declared.fault.Why.TheVariants as why
 use Rattle.doll_commit.specs.declared.fault.ChangeFault.{ChangeFault}
 use Rattle.doll_commit.specs.declared.fault.ChangeFault.TheVariants as fault
-use Rattle.doll_commit.specs.Records.{Ref, is_ref, has, with_ref, with_refs, SameRefs}
+use Rattle.doll_commit.specs.Refs.{Ref, is_ref, has, with_ref, with_refs, SameRefs}
 use Rattle.doll_commit.specs.Given.{Given}
 use Rattle.doll_commit.specs.Removed.{dependents, removed_with, is_restricted, without_rows}
 use Rattle.doll_commit.specs.Changes.{Made, living, filled_at, created_row, updated_row, create, update, destroy, destroy_all, touch}

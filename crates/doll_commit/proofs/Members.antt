@@ -6,7 +6,7 @@ use Rattle.std.specs.BTreeMap.{is_at}
 use Rattle.std.specs.BTreeSet.{BTreeSet, contains, Updates}
 use Rattle.std.proofs.lemmas.Bool.Decides.{nat_tests}
 use Rattle.std.proofs.lemmas.Map.Keys.{IsDistinct-push}
-use Rattle.doll_commit.specs.Records.{Ref, is_ref, has}
+use Rattle.doll_commit.specs.Refs.{Ref, is_ref, has}
 use Rattle.doll_commit.proofs.Closures.{is_ref_equiv, has-append}
 
 abbrev pub ref_cmp : Ref → Ref → Ordering

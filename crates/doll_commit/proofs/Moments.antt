@@ -1,43 +1,29 @@
 -- A record that differs across a commit has the commit's moment where it lives, and so have its touch parents.
-use Rattle.std.proofs.Common.{◌≡◌, ℕ, Bool, true, false, cond, List, [], Option, Some, None, IsSome, Result, Ok, Err, refl, sym, ◌∙◌, subst, ltb, length, inl, inr}
-use Rattle.std.specs.Prelude.{slice_get, Contains}
-use Rattle.std.specs.Option.{option_map_or}
+use Rattle.std.proofs.Common.{◌≡◌, ℕ, Bool, true, false, cond, List, [], Result, Ok, Err, refl, sym, ◌∙◌, subst, ltb, length, inl, inr}
+use Rattle.std.specs.Prelude.{Contains}
 use Rattle.doll_text.specs.Steps.{◌>>=◌}
-use Rattle.doll_schema.specs.declared.value.Row.{Row}
-use Rattle.doll_schema.specs.declared.model.Model.{Model}
 use Rattle.doll_schema.specs.declared.model.Schema.{Schema}
 use Rattle.doll_journal.specs.declared.change.Commit.{Commit}
-use Rattle.doll_table.specs.Tables.{TableMap, row_of}
+use Rattle.doll_table.specs.Tables.{TableMap}
 use Rattle.doll_commit.specs.declared.fault.Why.TheVariants as why
 use Rattle.doll_commit.specs.declared.fault.CommitFault.{CommitFault}
 use Rattle.doll_commit.specs.declared.fault.CommitFault.TheVariants as fault
 use Rattle.doll_commit.specs.declared.apply.Applied.{Applied}
-use Rattle.doll_commit.specs.Records.{Ref, has}
-use Rattle.doll_commit.specs.Commits.{row_touches, touch_parents, Course, all_made, touched_set, stamped, commit_of}
+use Rattle.doll_commit.specs.Refs.{Ref, has}
+use Rattle.doll_commit.specs.Commits.{touch_parents, Course, all_made, touched_set, stamped, commit_of}
 use Rattle.doll_commit.specs.Moments.{HasMoment, Differs, CarriesMoment}
-use Rattle.doll_commit.proofs.Closures.{has_at, closure_begins}
-use Rattle.doll_commit.proofs.Reached.{IsClosed, closure_closed}
+use Rattle.doll_commit.specs.declared.walk.Step.TheVariants as step
+use Rattle.doll_commit.proofs.Closures.{IsClosed, has_at, closure_begins, closure_closed}
+use Rattle.doll_commit.proofs.Walks.{lives_between}
 use Rattle.doll_commit.proofs.Stamps.{moment_stamped, row_unstamped, touch_parents_stamped}
 use Rattle.doll_commit.proofs.Courses.{Keeps, course_keeps, touch_parents_same}
 
 has_from_contains : (xs : List Ref) (r : Ref) → Contains xs r → has xs r ≡ true
 has_from_contains xs r c = subst (λ x. has xs x ≡ true) c.2 (has_at xs c.0 r c.1)
 
--- only living records have touch parents
-parents_of_living : (table : TableMap) (schema : Schema) (r p : Ref) → has (touch_parents table schema r) p ≡ true → IsSome (row_of table r.0 r.1)
-parents_of_living table schema r p h = by_model (slice_get schema.models r.0) h
-  where
-    by_row : (m : Model) (o : Option Row) → has (option_map_or (row_touches m) o []) p ≡ true → IsSome o
-    by_row m None h = absurd (cc h)
-    by_row m (Some row) h = refl
-
-    by_model : (o : Option Model) → has (option_map_or (λ (m : Model). option_map_or (row_touches m) (row_of table r.0 r.1) []) o []) p ≡ true → IsSome (row_of table r.0 r.1)
-    by_model None h = absurd (cc h)
-    by_model (Some m) h = by_row m (row_of table r.0 r.1) h
-
 -- the touched set holds the touch parents of its records
 pub touched_closed : (schema : Schema) (course : Course) → IsClosed (touch_parents course.table schema) (touched_set schema course)
-touched_closed schema course = closure_closed (touch_parents course.table schema) course.table (parents_of_living course.table schema) course.touched
+touched_closed schema course = closure_closed (touch_parents course.table schema) course.table (lives_between step.TouchParents course.table schema) course.touched
 
 pub in_touched : (schema : Schema) (course : Course) (r : Ref) → has course.touched r ≡ true → has (touched_set schema course) r ≡ true
 in_touched schema course r h = closure_begins (touch_parents course.table schema) course.table course.touched r h

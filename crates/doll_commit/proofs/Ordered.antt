@@ -10,7 +10,7 @@ use Rattle.doll_table.specs.Tables.{TableMap}
 use Rattle.doll_commit.specs.declared.apply.Applied.{Applied}
 use Rattle.doll_commit.specs.declared.fault.Why.{Why}
 use Rattle.doll_commit.specs.declared.fault.CommitFault.{CommitFault}
-use Rattle.doll_commit.specs.Records.{has}
+use Rattle.doll_commit.specs.Refs.{has}
 use Rattle.doll_commit.specs.Changes.{Made, made}
 use Rattle.doll_commit.specs.Commits.{Course, start, touched_at_once, after_change, or_refused, all_made, finished, commit_of}
 use Rattle.doll_commit.specs.Answers.{SameCourse, WentOn, ComesTo, IsRefused}

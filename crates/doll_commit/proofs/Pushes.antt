@@ -4,7 +4,7 @@ use Rattle.std.specs.List.{flat_map, zip}
 use Rattle.std.proofs.lemmas.List.{append-nil, take_more, take_all}
 use Rattle.std.proofs.lemmas.List.Concat.{flat_map-append}
 use Rattle.std.proofs.lemmas.Slice.Zip.{length-zip, get_or-zip}
-use Rattle.doll_commit.specs.Records.{Ref, with_ref, with_refs}
+use Rattle.doll_commit.specs.Refs.{Ref, with_ref, with_refs}
 
 pub with_refs_append : (xs ys zs : List Ref) → with_refs xs (ys ++ zs) ≡ with_refs (with_refs xs ys) zs
 with_refs_append xs [] zs = refl

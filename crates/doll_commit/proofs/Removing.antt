@@ -17,7 +17,7 @@ use Rattle.doll_schema.specs.declared.model.Schema.{Schema}
 use Rattle.doll_table.specs.Tables.{Extent, TableMap, row_of, rows_in, next_of, parent_of, names_parent, ids_under, without_row}
 use Rattle.doll_table.specs.Fits.{Fits, RowFits}
 use Rattle.doll_table.proofs.Growing.{row_of_without, next_of_without, length_stays}
-use Rattle.doll_commit.specs.Records.{Ref, is_ref, has, SameRefs}
+use Rattle.doll_commit.specs.Refs.{Ref, is_ref, has, SameRefs}
 use Rattle.doll_commit.specs.Removed.{naming_by, naming, is_restricted, without_rows}
 use Rattle.doll_commit.proofs.Alike.{same_table}
 use Rattle.doll_commit.proofs.Closures.{same_bool, is_ref-true, is_ref_itself, has_left, has_right, Within}

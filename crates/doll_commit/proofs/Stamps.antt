@@ -12,7 +12,7 @@ use Rattle.doll_table.specs.Tables.{Extent, TableMap, row_of, next_of, put_row}
 use Rattle.doll_table.specs.Fits.{Fits, RowFits}
 use Rattle.doll_table.proofs.Beyond.{row_beyond}
 use Rattle.doll_table.proofs.Growing.{row_of_put, next_of_put, length_stays, put_fits}
-use Rattle.doll_commit.specs.Records.{Ref, is_ref, has, SameRefs}
+use Rattle.doll_commit.specs.Refs.{Ref, is_ref, has, SameRefs}
 use Rattle.doll_commit.specs.Commits.{row_touches, touch_parents, stamped_at, stamped}
 use Rattle.doll_commit.proofs.Alike.{same_table}
 use Rattle.doll_commit.proofs.Closures.{is_ref-true}

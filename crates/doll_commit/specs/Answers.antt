@@ -7,7 +7,7 @@ use Rattle.doll_commit.specs.declared.fault.ChangeFault.TheVariants as fault
 use Rattle.doll_commit.specs.declared.fault.CommitFault.{CommitFault}
 use Rattle.doll_commit.specs.declared.fault.CommitFault.TheVariants as commit
 use Rattle.doll_commit.specs.declared.course.Course as memory
-use Rattle.doll_commit.specs.Records.{SameRefs}
+use Rattle.doll_commit.specs.Refs.{SameRefs}
 use Rattle.doll_commit.specs.Changes.{Made}
 use Rattle.doll_commit.specs.Commits.{Course, after_change}
 

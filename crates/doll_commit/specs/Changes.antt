@@ -11,7 +11,7 @@ use Rattle.doll_journal.specs.declared.change.Change.TheVariants as change
 use Rattle.doll_table.specs.Tables.{TableMap, row_of, next_of, put_row, put_next}
 use Rattle.doll_commit.specs.declared.fault.Why.{Why}
 use Rattle.doll_commit.specs.declared.fault.Why.TheVariants as why
-use Rattle.doll_commit.specs.Records.{Ref}
+use Rattle.doll_commit.specs.Refs.{Ref}
 use Rattle.doll_commit.specs.Given.{Given, given_fault}
 use Rattle.doll_commit.specs.Rows.{blank_row, row_after, lacks}
 use Rattle.doll_commit.specs.Removed.{removed_with, is_restricted, without_rows}

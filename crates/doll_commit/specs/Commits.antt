@@ -16,7 +16,7 @@ use Rattle.doll_commit.specs.declared.fault.Why.TheVariants as why
 use Rattle.doll_commit.specs.declared.fault.CommitFault.{CommitFault}
 use Rattle.doll_commit.specs.declared.fault.CommitFault.TheVariants as fault
 use Rattle.doll_commit.specs.declared.apply.Applied.{Applied}
-use Rattle.doll_commit.specs.Records.{Ref, closure}
+use Rattle.doll_commit.specs.Refs.{Ref, closure}
 use Rattle.doll_commit.specs.Changes.{Made, made}
 
 -- the parent that a row has under an association that touches

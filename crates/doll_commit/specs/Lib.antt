@@ -3,6 +3,7 @@ pub mod Changes
 pub mod Commits
 pub mod Given
 pub mod Moments
-pub mod Records
+pub mod Refs
 pub mod Removed
 pub mod Rows
+pub mod Walk

@@ -3,7 +3,7 @@ use Rattle.std.specs.Prelude.{ℕ, ◌≡◌, ◌≢◌, Some, Contains}
 use Rattle.doll_schema.specs.declared.model.Schema.{Schema}
 use Rattle.doll_schema.specs.declared.value.Row.{Row}
 use Rattle.doll_table.specs.Tables.{TableMap, row_of}
-use Rattle.doll_commit.specs.Records.{Ref}
+use Rattle.doll_commit.specs.Refs.{Ref}
 use Rattle.doll_commit.specs.Commits.{touch_parents}
 
 -- a record has this moment, if it lives

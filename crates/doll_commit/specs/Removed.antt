@@ -7,7 +7,7 @@ use Rattle.doll_schema.specs.declared.model.HasMany.{HasMany}
 use Rattle.doll_schema.specs.declared.model.Model.{Model}
 use Rattle.doll_schema.specs.declared.model.Schema.{Schema}
 use Rattle.doll_table.specs.Tables.{TableMap, ids_under, without_row}
-use Rattle.doll_commit.specs.Records.{Ref, has, closure}
+use Rattle.doll_commit.specs.Refs.{Ref, has, closure}
 
 -- a record's children under an association, if that destroys them
 abbrev pub children_under : TableMap → ℕ → HasMany → List Ref

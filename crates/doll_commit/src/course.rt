@@ -2,11 +2,11 @@
 
 ghost use Rattle.std.specs.Prelude.{◌≡◌, OnOk};
 ghost use Rattle.std.specs.List.{flat_map};
-ghost use Rattle.doll_commit.specs.Records.{with_ref, with_refs};
+ghost use Rattle.doll_commit.specs.Refs.{with_ref, with_refs};
 ghost use Rattle.doll_commit.specs.Commits.{touch_parents};
 
+use crate::refs::{Ref, Refs};
 use crate::touched::{add_all_touch_parents, add_touch_parents};
-use crate::walk::{Ref, Refs};
 use doll_schema::Schema;
 use doll_table::Table;
 use doll_text::{Ids, Memory};

@@ -8,7 +8,7 @@ ghost use Rattle.doll_commit.specs.Given as spec;
 ghost use Rattle.doll_schema.specs.Lookups.{key_name};
 
 use crate::fault::Why;
-use crate::walk::lives;
+use crate::refs::lives;
 use doll_schema::{Attribute, BelongsTo, Model, Value};
 use doll_table::Table;
 use doll_text::Name;

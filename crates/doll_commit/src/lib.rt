@@ -6,6 +6,7 @@ mod change;
 mod course;
 mod fault;
 mod given;
+mod refs;
 mod removal;
 mod rows;
 mod touched;

@@ -5,10 +5,11 @@ ghost use Rattle.std.specs.List.{list_any, flat_map, enumerate_from};
 ghost use Rattle.doll_schema.specs.declared.model.BelongsTo.{BelongsTo};
 ghost use Rattle.doll_schema.specs.declared.limits.TheConstants.{MOST_PARENTS};
 ghost use Rattle.doll_table.specs.Tables.{ids_under};
-ghost use Rattle.doll_commit.specs.Records.{has, with_refs, SameRefs};
+ghost use Rattle.doll_commit.specs.Refs.{has, with_refs, SameRefs};
 ghost use Rattle.doll_commit.specs.Removed as spec;
 
-use crate::walk::{Ref, Refs};
+use crate::refs::{Ref, Refs};
+use crate::walk::{Step, reached};
 use doll_schema::{BelongsTo, HasMany, Schema};
 use doll_table::Table;
 use doll_text::Memory;
@@ -23,18 +24,13 @@ pub fn removed_with(
 ) -> Result<Refs, Memory>
     ensures { IfOk result (λ removed. SameRefs removed (spec.removed_with table.now schema.now first)) }
 {
-    let mut removed = Refs::new(alloc);
-    removed.add(first)?;
-    let mut at = 0;
-    while let Some(gone) = removed.get(at) {
-        add_dependents(&mut removed, table, schema, gone)?;
-        at += 1;
-    }
-    Ok(removed)
+    let mut seeds = Refs::new(alloc);
+    seeds.add(first)?;
+    reached(Step::Dependents, table, schema, seeds)
 }
 
 /// Adds the records that go because a record goes.
-fn add_dependents(
+pub fn add_dependents(
     removed: &mut Refs,
     table: &Table,
     schema: &Schema,

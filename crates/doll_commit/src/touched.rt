@@ -3,11 +3,12 @@
 ghost use Rattle.std.specs.Prelude.{◌≡◌, [], length, IfOk, OnOk};
 ghost use Rattle.std.specs.List.{flat_map};
 ghost use Rattle.doll_table.specs.Fits.{Fits};
-ghost use Rattle.doll_commit.specs.Records.{with_refs, SameRefs};
+ghost use Rattle.doll_commit.specs.Refs.{with_refs, SameRefs};
 ghost use Rattle.doll_commit.specs.Commits.{touched_by, row_touches, touch_parents, touched_set, stamped_at, stamped, finished};
 
 use crate::apply::Applied;
-use crate::walk::{Ref, Refs};
+use crate::refs::{Ref, Refs};
+use crate::walk::{Step, reached};
 use doll_schema::{BelongsTo, Model, Row, Schema};
 use doll_table::Table;
 use doll_text::{Copied, Ids, Memory};
@@ -27,22 +28,9 @@ pub fn finish(
     ensures fits { IfOk result (λ applied. Fits schema.now applied.table) }
 {
     let mut table = table;
-    let refs = touched_set(schema, &table, touched)?;
+    let refs = reached(Step::TouchParents, &table, schema, touched)?;
     stamp(alloc, &mut table, moment, &refs)?;
     Ok(Applied { table, ids })
-}
-
-/// The records touched at once, and all that the touch of these leads to.
-pub fn touched_set(schema: &Schema, table: &Table, touched: Refs) -> Result<Refs, Memory>
-    ensures { IfOk result (λ all. SameRefs all (touched_set schema.now (record { table = table.now; touched = touched; ids = [] }))) }
-{
-    let mut all = touched;
-    let mut at = 0;
-    while let Some(one) = all.as_slice().get(at).copied() {
-        add_touch_parents(&mut all, schema, table, one)?;
-        at += 1;
-    }
-    Ok(all)
 }
 
 /// Adds the touch parents of each of the records.

@@ -1,110 +1,50 @@
-//! Records in the order found, each once, with a set beside them so that a look for one is short.
+//! A walk over records: from some to all that they lead to.
 
-ghost use Rattle.std.specs.Prelude.{◌≡◌, ◌<◌, ◌^◌, [], IfOk, OnOk, OnErr, length, slice_get, is_some};
-ghost use Rattle.std.specs.List.{IsDistinct};
-ghost use Rattle.doll_table.specs.Tables.{row_of};
-ghost use Rattle.doll_commit.specs.Records.{has, is_ref, with_ref, with_refs};
+ghost use Rattle.std.specs.Prelude.{◌≡◌, IfOk, OnOk};
+ghost use Rattle.doll_commit.specs.Refs.{with_refs, SameRefs, closure};
+ghost use Rattle.doll_commit.specs.Walk.{next_of};
 
+use crate::refs::{Ref, Refs};
+use crate::removal::add_dependents;
+use crate::touched::add_touch_parents;
+use doll_schema::Schema;
 use doll_table::Table;
 use doll_text::Memory;
-use std::alloc::Global;
-use std::collections::BTreeSet;
-use std::marker::Model;
 
-/// A record: the number of its model, and its id.
-pub type Ref = (u16, u32);
+/// How a record leads to others.
+#[derive(Clone, Copy)]
+pub enum Step {
+    /// To the records that go because it goes.
+    Dependents,
+    /// To the records that are touched because it is.
+    TouchParents,
+}
 
-/// Whether a record lives.
-pub fn lives(table: &Table, one: Ref) -> bool
-    ensures { result ≡ is_some (row_of table.now one.0 one.1) }
+/// The records, and all that steps lead to from them.
+pub fn reached(step: Step, table: &Table, schema: &Schema, seeds: Refs) -> Result<Refs, Memory>
+    ensures { IfOk result (λ all. SameRefs all (closure (next_of step table.now schema.now) table.now seeds)) }
 {
-    table.row(one.0, one.1).is_some()
+    let mut all = seeds;
+    let mut at = 0;
+    while let Some(one) = all.get(at) {
+        add_next(step, &mut all, table, schema, one)?;
+        at += 1;
+    }
+    Ok(all)
 }
 
-/// A list of records, each once.
-#[derive(Drop)]
-pub struct Refs {
-    list: Vec<Ref>,
-    members: BTreeSet<Ref>,
-}
-
-impl Model for Refs {
-    ghost use Rattle.std.specs.Prelude.{List, ◌≡◌};
-    ghost use Rattle.std.specs.List.{IsDistinct};
-    ghost use Rattle.std.specs.Ordering.{nat_cmp, ordering_then};
-    ghost use Rattle.std.specs.BTreeSet.{contains};
-    ghost use Rattle.doll_table.specs.Tables.{row_of};
-    ghost use Rattle.doll_commit.specs.Records.{Ref, has, is_ref};
-
-    ghost Value = { List Ref };
-
-    ghost view = { λ w. w.list.items };
-
-    ghost invariant = { λ w. ((ref : Ref) → contains (λ x y. ordering_then (nat_cmp x.0 y.0) (nat_cmp x.1 y.1)) w.members ref ≡ has w.list.items ref) × IsDistinct is_ref w.list.items };
-}
-
-impl Refs {
-    /// No records.
-    pub fn new(alloc: Global) -> Refs
-        ensures { result ≡ [] }
-    {
-        Refs {
-            list: Vec::new(alloc),
-            members: BTreeSet::new(alloc),
-        }
-    }
-
-    /// How many records.
-    pub fn len(&self) -> usize
-        ensures { result ≡ length self.now }
-    {
-        self.list.len()
-    }
-
-    /// The record at an index, counted from 0.
-    pub fn get(&self, at: usize) -> Option<Ref>
-        ensures value { result ≡ slice_get self.now at }
-        ensures short { length self.now < 2 ^ 64 }
-    {
-        self.list.get(at).copied()
-    }
-
-    /// The records in the order found.
-    pub fn as_slice(&self) -> &[Ref]
-        ensures items { result.now ≡ self.now }
-        ensures apart { IsDistinct is_ref self.now }
-    {
-        self.list.as_slice()
-    }
-
-    /// Whether a record is among these.
-    pub fn contains(&self, item: Ref) -> bool
-        ensures { result ≡ has self.now item }
-    {
-        self.members.contains(&item)
-    }
-
-    /// Adds a record at the end, unless it is there. A refusal changes nothing.
-    pub fn add(&mut self, item: Ref) -> Result<(), Memory>
-        ensures ok { OnOk result (self.new ≡ with_ref self.old item) }
-        ensures err { OnErr result (self.new ≡ self.old) }
-    {
-        if self.contains(item) {
-            return Ok(());
-        }
-        self.list.reserve(1)?;
-        self.members.insert(item)?;
-        let _ = self.list.push(item);
-        Ok(())
-    }
-
-    /// Adds records, each once.
-    pub fn add_all(&mut self, items: &[Ref]) -> Result<(), Memory>
-        ensures { OnOk result (self.new ≡ with_refs self.old items.now) }
-    {
-        for item in items {
-            self.add(*item)?;
-        }
-        Ok(())
+/// Adds the records that a step leads to from one.
+fn add_next(
+    step: Step,
+    refs: &mut Refs,
+    table: &Table,
+    schema: &Schema,
+    one: Ref,
+) -> Result<(), Memory>
+    ensures { OnOk result (refs.new ≡ with_refs refs.old (next_of step table.now schema.now one)) }
+{
+    match step {
+        Step::Dependents => add_dependents(refs, table, schema, one),
+        Step::TouchParents => add_touch_parents(refs, schema, table, one),
     }
 }

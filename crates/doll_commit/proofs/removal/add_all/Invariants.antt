@@ -1,5 +1,5 @@
 use Rattle.std.proofs.Common.{◌≡◌, ℕ, map, drop}
-use Rattle.doll_commit.specs.Records.{with_refs}
+use Rattle.doll_commit.specs.Refs.{with_refs}
 use Rattle.doll_commit.proofs.removal.add_all.Given as goal
 
 -- what is added and what is left give the whole

@@ -1,6 +1,6 @@
 use Rattle.std.proofs.Common.{◌≡◌, drop}
 use Rattle.std.specs.List.{flat_map}
-use Rattle.doll_commit.specs.Records.{with_refs}
+use Rattle.doll_commit.specs.Refs.{with_refs}
 use Rattle.doll_commit.specs.Removed.{children_under, dependents}
 use Rattle.doll_commit.proofs.removal.add_dependents.Given as goal
 

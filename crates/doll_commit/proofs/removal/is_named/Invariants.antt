@@ -1,7 +1,7 @@
 use Rattle.std.proofs.Common.{◌≡◌, ℕ, not, drop}
 use Rattle.std.specs.List.{list_any, flat_map, enumerate_from}
 use Rattle.doll_schema.specs.declared.model.Model.{Model}
-use Rattle.doll_commit.specs.Records.{Ref, has}
+use Rattle.doll_commit.specs.Refs.{Ref, has}
 use Rattle.doll_commit.specs.Removed.{naming, naming_by}
 use Rattle.doll_commit.proofs.removal.is_named.Given as goal
 

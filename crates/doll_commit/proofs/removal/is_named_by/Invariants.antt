@@ -1,6 +1,6 @@
 use Rattle.std.proofs.Common.{◌≡◌, not, drop}
 use Rattle.std.specs.List.{list_any, flat_map, enumerate_from}
-use Rattle.doll_commit.specs.Records.{Ref, has}
+use Rattle.doll_commit.specs.Refs.{Ref, has}
 use Rattle.doll_commit.specs.Removed.{naming_by}
 use Rattle.doll_commit.proofs.removal.is_named_by.Given as goal
 

@@ -1,6 +1,6 @@
 use Rattle.std.proofs.Common.{◌≡◌, not, drop}
 use Rattle.std.specs.List.{list_any}
-use Rattle.doll_commit.specs.Records.{Ref, has}
+use Rattle.doll_commit.specs.Refs.{Ref, has}
 use Rattle.doll_commit.specs.Removed.{naming, is_restricted}
 use Rattle.doll_commit.proofs.removal.is_restricted.Given as goal
 

@@ -1,7 +1,7 @@
 use Rattle.std.proofs.Common.{◌≡◌, ◌+◌, ◌-◌, ◌<◌, length, drop, get_or, sym, ap, subst, ◌∙◌, arith}
 use Rattle.doll_schema.specs.declared.model.Schema.{Schema}
 use Rattle.doll_table.specs.Tables.{TableMap, without_row}
-use Rattle.doll_commit.specs.Records.{Ref}
+use Rattle.doll_commit.specs.Refs.{Ref}
 use Rattle.doll_commit.specs.Removed.{without_rows}
 use Rattle.doll_commit.proofs.Closures.{has_at}
 use Rattle.doll_commit.proofs.Removing.{without_at}

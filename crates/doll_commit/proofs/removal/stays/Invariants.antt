@@ -1,6 +1,6 @@
 use Rattle.std.proofs.Common.{◌≡◌, ℕ, not, map, drop}
 use Rattle.std.specs.List.{list_any}
-use Rattle.doll_commit.specs.Records.{Ref, has}
+use Rattle.doll_commit.specs.Refs.{Ref, has}
 use Rattle.doll_commit.proofs.removal.stays.Given as goal
 
 -- what is left decides

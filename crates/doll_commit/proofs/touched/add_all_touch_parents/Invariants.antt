@@ -1,6 +1,6 @@
 use Rattle.std.proofs.Common.{◌≡◌, take}
 use Rattle.std.specs.List.{flat_map}
-use Rattle.doll_commit.specs.Records.{with_refs}
+use Rattle.doll_commit.specs.Refs.{with_refs}
 use Rattle.doll_commit.specs.Commits.{touch_parents}
 use Rattle.doll_commit.proofs.touched.add_all_touch_parents.Given as goal
 

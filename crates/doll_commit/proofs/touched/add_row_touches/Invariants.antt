@@ -1,6 +1,6 @@
 use Rattle.std.proofs.Common.{◌≡◌, length, take}
 use Rattle.std.specs.List.{flat_map, zip}
-use Rattle.doll_commit.specs.Records.{with_refs}
+use Rattle.doll_commit.specs.Refs.{with_refs}
 use Rattle.doll_commit.specs.Commits.{touched_by}
 use Rattle.doll_commit.proofs.touched.add_row_touches.Given as goal
 

@@ -1,6 +1,6 @@
 use Rattle.std.proofs.Common.{◌≡◌, drop}
-use Rattle.doll_commit.specs.Records.{with_refs}
-use Rattle.doll_commit.proofs.walk.Refs.add_all.Given as goal
+use Rattle.doll_commit.specs.Refs.{with_refs}
+use Rattle.doll_commit.proofs.refs.Refs.add_all.Given as goal
 
 -- what is added and what is left give the whole
 abbrev pub invariant-loop-item : goal.invariant-loop-item

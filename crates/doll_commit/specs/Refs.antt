@@ -37,6 +37,7 @@ count_of (extent ∷ extents) = length (finite.keys extent.rows) + count_of exte
 abbrev pub with_next : (Ref → List Ref) → List Ref → List Ref
 with_next next refs = refs ++ flat_map next refs
 
--- the records that steps over living rows lead to: the step is made as often as there are rows
+-- the records that steps over living rows lead to: the step is made once more than there are rows, so that the last one
+-- adds none
 abbrev pub closure : (Ref → List Ref) → TableMap → List Ref → List Ref
-closure next table refs = iterate (with_next next) (count_of table.extents) refs
+closure next table refs = iterate (with_next next) (count_of table.extents + 1) refs

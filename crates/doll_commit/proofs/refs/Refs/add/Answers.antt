@@ -1,7 +1,7 @@
 use Rattle.std.proofs.Common.{◌≡◌, ◌++◌, ◌∷◌, [], true, false, is_ok, ap, sym, ◌∙◌, arith}
-use Rattle.doll_commit.specs.Records.{has}
+use Rattle.doll_commit.specs.Refs.{has}
 use Rattle.doll_commit.proofs.Members.{more_beside}
-use Rattle.doll_commit.proofs.walk.Refs.add.Goals as goal
+use Rattle.doll_commit.proofs.refs.Refs.add.Goals as goal
 
 pub invariant_of-self-2 : goal.invariant_of-self-2
 invariant_of-self-2 c =
