@@ -214,7 +214,7 @@ fn no_records(alloc: Global, schema: &Schema) -> Result<Records<MemKeeper>, Memo
     let keeper = MemKeeper::new(alloc, Vec::new(alloc), None);
     match Records::open(alloc, keeper, schema.copy(alloc)?) {
         Ok(records) => Ok(records),
-        Err(fault) => match fault {
+        Err(refusal) => match refusal.fault {
             OpenFault::Memory => Err(Memory),
             // It fails at no call, and keeps no item that could have a fault.
             _ => unreachable!(),

@@ -1,15 +1,15 @@
--- Laws of calls one after another in none of which a keeper fails.
-use Rattle.std.proofs.Common.{◌≡◌, ℕ, suc, ◌+◌, Bool, false, refl, arith}
-use Rattle.doll_keep.specs.Calls.{Serves}
+-- Laws of loads one after another in none of which a keeper fails.
+use Rattle.std.proofs.Common.{◌≡◌, ℕ, suc, ◌+◌, false, refl, arith}
+use Rattle.doll_keep.specs.Calls.{Load, Telling, Serves}
 
--- no call
-pub serves_none : {K : Type 0} (Called : K → Bool → K → Type 0) (keeper : K) → Serves Called 0 keeper keeper
+-- no load
+pub serves_none : {K : Type 0} (Called : Telling K) (keeper : K) → Serves Called 0 keeper keeper
 unfolding Serves
 serves_none Called keeper = refl
 
--- one call more
-pub serves_more : {K : Type 0} (Called : K → Bool → K → Type 0) (calls : ℕ) (before last after : K) → Serves Called calls before last → Called last false after → Serves Called (calls + 1) before after
+-- one load more
+pub serves_more : {K : Type 0} (Called : Telling K) (loads : ℕ) (before last after : K) → Serves Called loads before last → Called last (Load loads) false after → Serves Called (loads + 1) before after
 unfolding Serves
-serves_more Called calls before last after served called =
-    let next : calls + 1 ≡ suc calls = omega arith in
+serves_more Called loads before last after served called =
+    let next : loads + 1 ≡ suc loads = omega arith in
     rw next (last, served, called)

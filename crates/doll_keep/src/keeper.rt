@@ -2,6 +2,7 @@
 
 ghost use Rattle.std.specs.Prelude.{◌≡◌, ℕ, Bool, List, Option, IfOk, OnOk, OnErr};
 ghost use Rattle.doll_base.specs.Faults.{KeepsCount, HasCause};
+ghost use Rattle.doll_keep.specs.Calls.{Call, Load, Append};
 ghost use Rattle.doll_keep.specs.Kept.{Added, GivesItem, has_failed};
 ghost use Rattle.doll_keep.specs.declared.keeper.KeepFault.TheVariants.{Failed, Memory};
 
@@ -32,8 +33,8 @@ pub trait Keeper {
     /// How often the keeper has failed.
     ghost faults: { Self → ℕ };
 
-    /// What is told of one call: the keeper before it, whether it failed in it, and the keeper after it.
-    ghost called: { Self → Bool → Self → Type 0 };
+    /// What is told of one call: the keeper before it, which call it was, whether it failed in it, and the keeper after it.
+    ghost called: { Self → Call → Bool → Self → Type 0 };
 
     /// Adds an item at the end.
     fn append(&mut self, alloc: Global, bytes: &[u8]) -> Result<(), KeepFault>
@@ -41,7 +42,7 @@ pub trait Keeper {
         ensures same { OnErr result (kept self.new ≡ kept self.old) }
         ensures cause { HasCause Failed (faults self.old) (faults self.new) result }
         ensures count { KeepsCount (faults self.old) (faults self.new) }
-        ensures called { called self.old (has_failed result) self.new };
+        ensures called { called self.old (Append bytes.now) (has_failed result) self.new };
 
     /// The item with this number from 0, or none exactly past the end.
     fn load(&mut self, alloc: Global, at: u64) -> Result<Option<Vec<u8>>, KeepFault>
@@ -49,5 +50,5 @@ pub trait Keeper {
         ensures same { kept self.new ≡ kept self.old }
         ensures cause { HasCause Failed (faults self.old) (faults self.new) result }
         ensures count { KeepsCount (faults self.old) (faults self.new) }
-        ensures called { called self.old (has_failed result) self.new };
+        ensures called { called self.old (Load at) (has_failed result) self.new };
 }

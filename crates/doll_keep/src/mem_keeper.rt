@@ -3,7 +3,7 @@
 ghost use Rattle.std.specs.Prelude.{◌≡◌, ◌∷◌, ◌++◌, [], Some, IfOk, OnOk, OnErr};
 ghost use Rattle.doll_base.specs.Faults.{KeepsCount, HasCause};
 ghost use Rattle.doll_keep.specs.Kept.{GivesItem, contents, has_failed};
-ghost use Rattle.doll_keep.specs.Calls.{MemCalled, NeverFails};
+ghost use Rattle.doll_keep.specs.Calls.{Load, Append, MemCalled, NeverFails};
 ghost use Rattle.doll_keep.specs.declared.keeper.KeepFault.TheVariants.{Failed, Memory};
 
 use crate::keeper::{KeepFault, Keeper};
@@ -53,7 +53,7 @@ impl Keeper for MemKeeper {
         ensures same { OnErr result (self.new.kept ≡ self.old.kept) }
         ensures cause { HasCause Failed self.old.plan.faults self.new.plan.faults result }
         ensures count { KeepsCount self.old.plan.faults self.new.plan.faults }
-        ensures called { MemCalled self.old (has_failed result) self.new }
+        ensures called { MemCalled self.old (Append bytes.now) (has_failed result) self.new }
     {
         // A call that fails keeps nothing of the item.
         if self.plan.fails() {
@@ -67,7 +67,7 @@ impl Keeper for MemKeeper {
         ensures same { self.new.kept ≡ self.old.kept }
         ensures cause { HasCause Failed self.old.plan.faults self.new.plan.faults result }
         ensures count { KeepsCount self.old.plan.faults self.new.plan.faults }
-        ensures called { MemCalled self.old (has_failed result) self.new }
+        ensures called { MemCalled self.old (Load at) (has_failed result) self.new }
     {
         if self.plan.fails() {
             return Err(KeepFault::Failed);

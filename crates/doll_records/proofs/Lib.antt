@@ -4,3 +4,4 @@ pub mod Taken
 pub mod Replays
 pub mod Reopened
 pub mod Places
+pub mod Loads

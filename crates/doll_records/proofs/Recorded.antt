@@ -1,11 +1,15 @@
 -- What recording a commit comes to over the table that is held, and what is kept after it.
-use Rattle.std.proofs.Common.{◌≡◌, ℕ, ◌+◌, ◌-◌, ◌<◌, ◌^◌, true, List, [], ◌∷◌, ◌++◌, length, map, Option, Some, None, Result, Ok, Err, nat_lt, ap, subst, ◌∙◌, refl, sym, arith, lt-ltb}
+use mathlib.Core.Logic.{inr}
+use Rattle.std.proofs.Common.{◌≡◌, ℕ, ◌+◌, ◌-◌, ◌<◌, ◌^◌, true, false, List, [], ◌∷◌, ◌++◌, length, map, Option, Some, None, Result, Ok, Err, nat_lt, ap, subst, ◌∙◌, refl, sym, arith, lt-ltb}
 use Rattle.std.proofs.lemmas.List.{map-append}
 use Rattle.doll_schema.specs.declared.model.Schema.{Schema}
 use Rattle.doll_journal.specs.declared.change.Change.{Change}
 use Rattle.doll_journal.specs.declared.change.Commit.{Commit}
 use Rattle.doll_journal.specs.Spelling.{spelling}
-use Rattle.doll_keep.specs.Kept.{Added}
+use Rattle.doll_keep.specs.Calls.{Append, Telling}
+use Rattle.doll_keep.specs.Kept.{Added, has_failed}
+use Rattle.doll_keep.specs.declared.keeper.KeepFault.{KeepFault}
+use Rattle.doll_keep.specs.declared.keeper.KeepFault.TheVariants.{Failed, Memory}
 use Rattle.doll_table.specs.Tables.{TableMap}
 use Rattle.doll_commit.specs.declared.apply.Applied.{Applied}
 use Rattle.doll_commit.specs.declared.fault.CommitFault.{CommitFault}
@@ -15,7 +19,8 @@ use Rattle.doll_table.specs.Fits.{Fits}
 use Rattle.doll_journal.specs.Storable.{IsStorable, AreStorable}
 use Rattle.doll_records.specs.declared.fault.RecordFault.{RecordFault}
 use Rattle.doll_records.specs.Histories.{table_of, last_moment, next_moment, most_commits, Holds, IsSpelled}
-use Rattle.doll_records.specs.Commitments.{or_refused, committed, asked}
+use Rattle.doll_records.specs.Commitments.{or_refused, committed, asked, CalledOnce}
+use Rattle.doll_records.specs.Faults.{record_keep_fault}
 use Rattle.doll_records.proofs.Growing.{table_is, holds_grown}
 
 pub refused : (schema : Schema) (history : List Commit) (table : TableMap) (last : ℕ) (commit : Commit) (e : RecordFault) → Holds schema history table last → length history < most_commits → last < 2 ^ 63 - 1
@@ -86,3 +91,12 @@ next_holds schema history next table seen last commit now applied holds room soo
 pub next_carries : (schema : Schema) (history next : List Commit) (table seen after : TableMap) (last moment : ℕ) → Holds schema history table last → seen ≡ table → Holds schema next after moment
     → CarriesMoment schema seen after moment → CarriesMoment schema (table_of schema history) (table_of schema next) moment
 next_carries schema history next table seen after last moment holds same grown carries = rw (table_is schema history table last holds, table_is schema next after moment grown, ← same) carries
+
+-- the one call of the keeper for a commit, by the bytes that it was given
+pub called_ok : {K : Type 0} (Called : Telling K) (before after : K) (wanted bytes : List ℕ) → bytes ≡ wanted → Called before (Append bytes) false after → Called before (Append wanted) false after
+called_ok Called before after wanted bytes is called = subst (λ (b : List ℕ). Called before (Append b) false after) is called
+
+pub called_err : {K : Type 0} (Called : Telling K) (before after : K) (wanted bytes : List ℕ) (fault : KeepFault) → bytes ≡ wanted → Called before (Append bytes) (has_failed {T = Unit {0}} (Err fault)) after
+    → CalledOnce Called wanted before after (Err (record_keep_fault fault))
+called_err Called before after wanted bytes Failed is called = subst (λ (b : List ℕ). Called before (Append b) true after) is called
+called_err Called before after wanted bytes Memory is called = inr (called_ok Called before after wanted bytes is called)

@@ -1,9 +1,10 @@
 -- What recording a commit after a history comes to (this project's own).
-use Rattle.std.specs.Prelude.{◌≡◌, ◌⊎◌, ℕ, ◌+◌, ◌-◌, ◌^◌, nat_lt, Bool, true, false, List, length, Result, Ok, Err}
+use Rattle.std.specs.Prelude.{◌≡◌, ◌⊎◌, ℕ, ◌+◌, ◌-◌, ◌^◌, nat_lt, true, false, List, length, Result, Ok, Err}
 use Rattle.doll_text.specs.Steps.{◌>>=◌, ◌>>◌, check}
 use Rattle.doll_schema.specs.declared.model.Schema.{Schema}
 use Rattle.doll_journal.specs.declared.change.Change.{Change}
 use Rattle.doll_journal.specs.declared.change.Commit.{Commit}
+use Rattle.doll_keep.specs.Calls.{Append, Telling}
 use Rattle.doll_commit.specs.declared.apply.Applied.{Applied}
 use Rattle.doll_commit.specs.declared.fault.CommitFault.{CommitFault}
 use Rattle.doll_commit.specs.Commits.{commit_of}
@@ -39,11 +40,12 @@ committed schema history commit = do
   applied ← or_refused (commit_of (table_of schema history) schema commit)
   Ok (record { place = length history + 1; moment = commit.moment; ids = applied.ids })
 
--- The keeper is called once, for a commit that nothing else refuses and for which memory is found, and else not at all.
-abbrev pub CalledOnce : {K : Type 0} → (K → Bool → K → Type 0) → K → K → Result Committed RecordFault → Type 0
-CalledOnce Called before after (Ok committed) = Called before false after
-CalledOnce Called before after (Err records.Kept) = Called before true after
-CalledOnce Called before after (Err records.Memory) = (after ≡ before) ⊎ Called before false after
-CalledOnce Called before after (Err (records.HistoryFull count)) = after ≡ before
-CalledOnce Called before after (Err (records.MomentsEnded last)) = after ≡ before
-CalledOnce Called before after (Err (records.Refused index why)) = after ≡ before
+-- The keeper is called once, to add an item with these bytes, for a commit that nothing else refuses and for which
+-- memory is found, and else not at all.
+abbrev pub CalledOnce : {K : Type 0} → Telling K → List ℕ → K → K → Result Committed RecordFault → Type 0
+CalledOnce Called bytes before after (Ok committed) = Called before (Append bytes) false after
+CalledOnce Called bytes before after (Err records.Kept) = Called before (Append bytes) true after
+CalledOnce Called bytes before after (Err records.Memory) = (after ≡ before) ⊎ Called before (Append bytes) false after
+CalledOnce Called bytes before after (Err (records.HistoryFull count)) = after ≡ before
+CalledOnce Called bytes before after (Err (records.MomentsEnded last)) = after ≡ before
+CalledOnce Called bytes before after (Err (records.Refused index why)) = after ≡ before

@@ -1,5 +1,5 @@
 -- What opening a list of items comes to (this project's own).
-use Rattle.std.specs.Prelude.{◌≡◌, ◌≤◌, ℕ, nat_lt, List, [], ◌∷◌, ◌++◌, map, length, Option, None, Some, Result, Ok, Err}
+use Rattle.std.specs.Prelude.{◌≡◌, ◌≤◌, ◌+◌, ℕ, nat_lt, List, [], ◌∷◌, ◌++◌, map, length, Option, None, Some, Result, Ok, Err}
 use Rattle.std.specs.List.{AllByRecursion}
 use Rattle.doll_text.specs.Steps.{◌>>=◌, ◌>>◌, check}
 use Rattle.doll_schema.specs.declared.model.Schema.{Schema}
@@ -12,9 +12,12 @@ use Rattle.doll_commit.specs.declared.apply.Applied.{Applied}
 use Rattle.doll_commit.specs.declared.fault.CommitFault.{CommitFault}
 use Rattle.doll_commit.specs.declared.fault.CommitFault.TheVariants as commits
 use Rattle.doll_commit.specs.Commits.{commit_of}
+use Rattle.doll_keep.specs.Calls.{Telling, Serves, FailsAfter}
 use Rattle.doll_records.specs.declared.fault.OpenFault.{OpenFault}
 use Rattle.doll_records.specs.declared.fault.OpenFault.TheVariants as opens
-use Rattle.doll_records.specs.Histories.{IsHistory, table_of, last_moment, follows, most_commits}
+use Rattle.doll_records.specs.declared.opening.OpenRefusal.{OpenRefusal}
+use Rattle.doll_records.specs.Faults.{GivesKept}
+use Rattle.doll_records.specs.Histories.{Recorded, IsHistory, table_of, last_moment, follows, most_commits}
 
 -- the faults of the item with an index
 abbrev pub or_journal : ℕ → Result Commit JournalFault → Result Commit OpenFault
@@ -50,6 +53,39 @@ opened schema items = opened_from schema [] items
 abbrev pub OfList : Option (List (List ℕ)) → (List (List ℕ) → Type 0) → Type 0
 OfList None Holds = (items : List (List ℕ)) × Holds items
 OfList (Some items) Holds = Holds items
+
+-- The call gave the history of the keeper's items, or their first fault, unless the keeper failed or no memory was
+-- found. Where the keeper doesn't tell its items, they are some.
+abbrev pub GivesOpened : {X : Type 0} → Schema → (X → List Commit) → Option (List (List ℕ)) → Result X OpenFault → Type 0
+GivesOpened schema history kept result = OfList kept (λ items. GivesKept history opens.Kept opens.Memory (opened schema items) result)
+
+-- a fault of the item with this index, or want of memory
+abbrev pub IsOfItem : ℕ → OpenFault → Type 0
+IsOfItem index opens.Kept = ⊥
+IsOfItem index opens.Memory = Unit {0}
+IsOfItem index (opens.Journal at fault) = at ≡ index
+IsOfItem index (opens.Moment at moment) = at ≡ index
+IsOfItem index (opens.Apply at change why) = at ≡ index
+IsOfItem index (opens.TooLong limit) = ⊥
+
+-- the calls of the keeper up to a fault: loads of the first items, of which that of the fault is the last
+abbrev pub LoadsUpTo : {K : Type 0} → Telling K → OpenFault → K → K → Type 0
+LoadsUpTo Called opens.Kept before after = (loads : ℕ) × (loads ≤ most_commits) × FailsAfter Called loads before after
+LoadsUpTo Called opens.Memory before after = (loads : ℕ) × (loads ≤ most_commits + 1) × Serves Called loads before after
+LoadsUpTo Called (opens.Journal at fault) before after = Serves Called (at + 1) before after
+LoadsUpTo Called (opens.Moment at moment) before after = Serves Called (at + 1) before after
+LoadsUpTo Called (opens.Apply at change why) before after = Serves Called (at + 1) before after
+LoadsUpTo Called (opens.TooLong limit) before after = Serves Called (limit + 1) before after
+
+-- the keeper that an opening hands on, whatever the answer
+abbrev pub keeper_after : {K : Type 0} → Result (Recorded K) (OpenRefusal K) → K
+keeper_after (Ok records) = records.keeper
+keeper_after (Err refusal) = refusal.keeper
+
+-- an opening's answer, where of a refusal only the fault counts
+abbrev pub or_fault : {K X : Type 0} → Result X (OpenRefusal K) → Result X OpenFault
+or_fault (Ok x) = Ok x
+or_fault (Err refusal) = Err refusal.fault
 
 -- a history whose commits can be stored is opened from its spellings as it is
 abbrev pub OpensAgain : Type 0

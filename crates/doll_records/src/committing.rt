@@ -2,6 +2,7 @@
 
 ghost use Rattle.std.specs.Prelude.{◌≡◌, ◌+◌, ◌<◌, ◌≤◌, ◌^◌, ◌∷◌, [], ◌++◌, length, vec_len, vec_capacity, IfOk, OnOk, OnErr, IsErrOf, IsOk};
 ghost use Rattle.doll_base.specs.Faults.{KeepsCount, HasCause};
+ghost use Rattle.doll_keep.specs.Calls.{Append};
 ghost use Rattle.doll_keep.specs.Kept.{Added, has_failed};
 ghost use Rattle.doll_text.specs.Gives.{GivesBy};
 ghost use Rattle.doll_journal.specs.Spelling.{spelling};
@@ -17,11 +18,11 @@ ghost use Rattle.doll_records.specs.declared.fault.RecordFault.TheVariants as fa
 use crate::fault::RecordFault;
 use crate::records::{Records, SharedTable};
 use doll_commit::apply;
-use doll_text::Ids;
 use doll_journal::{Changes, Commit, encode};
 use doll_keep::{KeepFault, Keeper};
 use doll_schema::Schema;
 use doll_table::Table;
+use doll_text::Ids;
 use std::alloc::Global;
 
 /// The most commits of a history.
@@ -103,7 +104,7 @@ fn keep<K: Keeper>(
     ensures same { OnErr result (history.new.items ≡ history.old.items) }
     ensures cause { HasCause KeepFault.Failed (K.faults keeper.old) (K.faults keeper.new) result }
     ensures count { KeepsCount (K.faults keeper.old) (K.faults keeper.new) }
-    ensures called { K.called keeper.old (has_failed result) keeper.new }
+    ensures called { K.called keeper.old (Append bytes.now) (has_failed result) keeper.new }
 {
     keeper.append(alloc, bytes)?;
     let _ = history.push(commit);
@@ -135,8 +136,8 @@ impl<K: Keeper> Records<K> {
         ensures kept { OnErr result (K.kept self.new.keeper ≡ K.kept self.old.keeper) }
         ensures cause { HasCause faults.Kept (K.faults self.old.keeper) (K.faults self.new.keeper) result }
         ensures count { KeepsCount (K.faults self.old.keeper) (K.faults self.new.keeper) }
-        // The keeper is called once for a commit that nothing else refuses, and else not at all.
-        ensures called { CalledOnce K.called self.old.keeper self.new.keeper result }
+        // The keeper is called once, to add the commit's bytes, for a commit that nothing else refuses, and else not at all.
+        ensures called { CalledOnce K.called (spelling (asked self.old.history author serial changes now)) self.old.keeper self.new.keeper result }
     {
         if self.history.len() as u64 >= MOST_COMMITS {
             return Err(RecordFault::HistoryFull {

@@ -6,9 +6,9 @@ ghost use Rattle.doll_records.specs.declared.fault.OpenFault.TheVariants as open
 ghost use Rattle.doll_records.specs.declared.fault.RecordFault.TheVariants as records;
 
 use doll_commit::{CommitFault, Why};
-use doll_text::Memory;
 use doll_journal::JournalFault;
 use doll_keep::KeepFault;
+use doll_text::Memory;
 use std::alloc::{AllocError, AllocFailed};
 
 /// Why a keeper's items are no history. `index` counts the items from 0.

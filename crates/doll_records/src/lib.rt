@@ -8,5 +8,5 @@ pub mod records;
 
 pub use committing::Committed;
 pub use fault::{OpenFault, RecordFault};
-pub use opening::{Past, opens_again, replay};
+pub use opening::{OpenRefusal, opens_again};
 pub use records::{Records, SharedTable, Snapshot, moments_tell_places};

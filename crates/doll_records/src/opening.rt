@@ -1,9 +1,9 @@
 //! Opening the history that a keeper keeps.
 
-ghost use Rattle.std.specs.Prelude.{◌≡◌, ◌+◌, ◌<◌, ◌≤◌, ◌∷◌, [], ◌++◌, ℕ, map, length, IfOk, IsErrOf};
-ghost use Rattle.doll_base.specs.Faults.{Rose, KeepsCount, HasCause};
+ghost use Rattle.std.specs.Prelude.{◌≡◌, ◌+◌, ◌<◌, ◌≤◌, ◌∷◌, [], ◌++◌, ℕ, map, length, IfOk, IfErr};
+ghost use Rattle.doll_base.specs.Faults.{KeepsCount, HasCause};
 ghost use Rattle.doll_text.specs.Gives.{Gives};
-ghost use Rattle.doll_keep.specs.Calls.{Serves, FailsAfter};
+ghost use Rattle.doll_keep.specs.Calls.{Serves};
 ghost use Rattle.doll_journal.specs.Reading as journal;
 ghost use Rattle.doll_text.specs.Gives.{GivesBy};
 ghost use Rattle.doll_journal.specs.Spelling.{spelling};
@@ -11,27 +11,33 @@ ghost use Rattle.doll_journal.specs.Storable.{IsStorable};
 ghost use Rattle.doll_table.specs.Fits.{Fits};
 ghost use Rattle.doll_commit.specs.Commits.{commit_of};
 ghost use Rattle.doll_records.specs.Histories.{Holds, IsSpelled, follows, most_commits};
-ghost use Rattle.doll_records.specs.Openings.{or_journal, or_apply, opened_with, opened, OfList, OpensAgain};
-ghost use Rattle.doll_records.specs.Faults.{GivesKept};
+ghost use Rattle.doll_records.specs.Openings.{or_journal, or_apply, opened_with, IsOfItem, GivesOpened, LoadsUpTo, keeper_after, or_fault, OpensAgain};
 ghost use Rattle.doll_records.specs.declared.fault.OpenFault.TheVariants as faults;
 
 use crate::committing::{LAST_MOMENT, MOST_COMMITS};
 use crate::fault::OpenFault;
 use crate::records::{Records, SharedTable};
 use doll_commit::{Applied, CommitFault, apply};
-use doll_text::Memory;
 use doll_journal::{Commit, JournalFault, decode};
 use doll_keep::Keeper;
 use doll_schema::Schema;
 use doll_table::Table;
+use doll_text::Memory;
 use std::alloc::Global;
+
+/// A keeper whose items weren't opened, and why.
+#[derive(Drop)]
+pub struct OpenRefusal<K> {
+    pub fault: OpenFault,
+    pub keeper: K,
+}
 
 /// A history, the table that it leaves, and the moment of its last commit, 0 where there is none.
 #[derive(Drop)]
-pub struct Past {
-    pub history: Vec<Commit>,
-    pub table: Table,
-    pub moment: u64,
+struct Past {
+    history: Vec<Commit>,
+    table: Table,
+    moment: u64,
 }
 
 /// The history of no item.
@@ -51,7 +57,7 @@ fn no_past(alloc: Global, schema: &Schema) -> Result<Past, Memory>
 fn commit_in(alloc: Global, index: u64, item: &[u8]) -> Result<Commit, OpenFault>
     ensures exact { Gives OpenFault.Memory (or_journal index (journal.commit_of item.now)) result }
     ensures spelled { IfOk result (λ commit. (item.now ≡ spelling commit) × IsStorable commit) }
-    ensures blame { IsErrOf result faults.Kept → ⊥ }
+    ensures at { IfErr result (λ fault. IsOfItem index fault) }
 {
     match decode(alloc, item) {
         Ok(commit) => Ok(commit),
@@ -71,7 +77,7 @@ fn applied_at(
     requires fits { Fits schema.now table }
     ensures exact { Gives OpenFault.Memory (or_apply index (commit_of table schema.now commit.now)) result }
     ensures fits { IfOk result (λ applied. Fits schema.now applied.table) }
-    ensures blame { IsErrOf result faults.Kept → ⊥ }
+    ensures at { IfErr result (λ fault. IsOfItem index fault) }
 {
     match apply::apply_to(alloc, table, schema, commit) {
         Ok(applied) => Ok(applied),
@@ -110,7 +116,7 @@ fn with_item(
     ensures exact { GivesBy (λ next. next.history.items) OpenFault.Memory (opened_with schema.now past.history.items item.now) result }
     ensures holds { IfOk result (λ next. Holds schema.now next.history.items next.table next.moment) }
     ensures item { IfOk result (λ next. map spelling next.history.items ≡ map spelling past.history.items ++ item.now ∷ []) }
-    ensures blame { IsErrOf result faults.Kept → ⊥ }
+    ensures at { IfErr result (λ fault. IsOfItem index fault) }
 {
     let Past {
         mut history,
@@ -135,16 +141,16 @@ fn with_item(
 }
 
 /// The history of the items that a keeper keeps, or the first fault of the first that has one. The keeper's list stays.
-pub fn replay<K: Keeper>(alloc: Global, keeper: &mut K, schema: &Schema) -> Result<Past, OpenFault>
-    ensures exact { OfList (K.kept keeper.old) (λ items. GivesKept (λ past. past.history.items) faults.Kept faults.Memory (opened schema.now items) result) }
+fn replay<K: Keeper>(alloc: Global, keeper: &mut K, schema: &Schema) -> Result<Past, OpenFault>
+    ensures exact { GivesOpened schema.now (λ past. past.history.items) (K.kept keeper.old) result }
     ensures holds { IfOk result (λ past. Holds schema.now past.history.items past.table past.moment) }
     ensures spelled { IfOk result (λ past. IsSpelled (K.kept keeper.old) past.history.items) }
     ensures same { K.kept keeper.new ≡ K.kept keeper.old }
     ensures cause { HasCause faults.Kept (K.faults keeper.old) (K.faults keeper.new) result }
     ensures count { KeepsCount (K.faults keeper.old) (K.faults keeper.new) }
-    // The keeper is called for each item and once more.
-    ensures served { IfOk result (λ past. Serves K.called (length past.history.items + 1) keeper.old keeper.new) }
-    ensures failed { IsErrOf result faults.Kept → (calls : ℕ) × calls ≤ most_commits × FailsAfter K.called calls keeper.old keeper.new }
+    ensures served { IfOk result (λ past.
+        Serves K.called (length past.history.items + 1) keeper.old keeper.new) }
+    ensures failed { IfErr result (λ fault. LoadsUpTo K.called fault keeper.old keeper.new) }
 {
     let mut past = no_past(alloc, schema)?;
     for index in 0..MOST_COMMITS {
@@ -162,24 +168,35 @@ pub fn replay<K: Keeper>(alloc: Global, keeper: &mut K, schema: &Schema) -> Resu
 }
 
 impl<K: Keeper + Drop> Records<K> {
-    /// Opens the history that a keeper keeps. After a refusal the keeper is gone, and a clause speaks of it only where it failed;
-    /// `replay`, which borrows the keeper, promises that its list stays whatever the answer.
-    pub fn open(alloc: Global, mut keeper: K, schema: Schema) -> Result<Records<K>, OpenFault>
-        ensures exact { OfList (K.kept keeper) (λ items. GivesKept (λ records. records.history) faults.Kept faults.Memory (opened schema items) result) }
+    /// Opens the history that a keeper keeps. A refusal hands the keeper back, and its list is as it was.
+    pub fn open(alloc: Global, mut keeper: K, schema: Schema) -> Result<Records<K>, OpenRefusal<K>>
+        ensures exact { GivesOpened schema (λ records. records.history) (K.kept keeper) (or_fault result) }
         ensures schema { IfOk result (λ records. records.schema ≡ schema) }
-        ensures same { IfOk result (λ records. K.kept records.keeper ≡ K.kept keeper) }
-        ensures count { IfOk result (λ records. KeepsCount (K.faults keeper) (K.faults records.keeper)) }
-        // The keeper is called for each item and once more.
-        ensures served { IfOk result (λ records. Serves K.called (length records.history + 1) keeper records.keeper) }
-        // The keeper failed in the last of some calls, as its count of faults said when it was let go.
-        ensures cause { IsErrOf result faults.Kept → (last : K) × (K.kept last ≡ K.kept keeper) × Rose (K.faults keeper) (K.faults last) × ((calls : ℕ) × calls ≤ most_commits × FailsAfter K.called calls keeper last) }
+        ensures same { K.kept (keeper_after result) ≡ K.kept keeper }
+        ensures cause { HasCause faults.Kept (K.faults keeper) (K.faults (keeper_after result)) (or_fault result) }
+        ensures count { KeepsCount (K.faults keeper) (K.faults (keeper_after result)) }
+        // Each item is loaded once, in order, and the one past them.
+        ensures served { IfOk result (λ records.
+            Serves K.called (length records.history + 1) keeper records.keeper) }
+        // After a refusal the keeper was called for the items up to that of the fault, in order, and for nothing else.
+        ensures failed { IfErr result (λ refusal.
+            LoadsUpTo K.called refusal.fault keeper refusal.keeper) }
     {
+        let past = match replay(alloc, &mut keeper, &schema) {
+            Ok(past) => past,
+            Err(fault) => return Err(OpenRefusal { fault, keeper }),
+        };
         let Past {
             history,
             table,
             moment,
-        } = replay(alloc, &mut keeper, &schema)?;
-        let table = SharedTable::new(alloc, table)?;
+        } = past;
+        let Ok(table) = SharedTable::new(alloc, table) else {
+            return Err(OpenRefusal {
+                fault: OpenFault::Memory,
+                keeper,
+            });
+        };
         Ok(Records {
             schema,
             history,

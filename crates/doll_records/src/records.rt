@@ -6,11 +6,11 @@ ghost use Rattle.doll_journal.specs.Storable.{IsStorable};
 ghost use Rattle.doll_table.specs.Fits.{Fits};
 ghost use Rattle.doll_records.specs.Histories.{IsHistory, IsSpelled, MomentsTellPlaces, table_at, table_of, moment_at, most_commits};
 
-use doll_text::Memory;
 use doll_journal::Commit;
 use doll_keep::Keeper;
 use doll_schema::Schema;
 use doll_table::Table;
+use doll_text::Memory;
 use std::alloc::{AllocError, Global};
 use std::marker::Model;
 use std::sync::Arc;

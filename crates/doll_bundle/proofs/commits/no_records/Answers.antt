@@ -1,13 +1,13 @@
-use Rattle.std.proofs.Common.{◌+◌, Err, length, refl, ap}
+use Rattle.std.proofs.Common.{◌+◌, length, refl}
 use Rattle.doll_keep.specs.Calls.{IsFaultless}
-use Rattle.doll_bundle.proofs.Keeping.{serves_faultless, fails_after_none, open_refused_never}
+use Rattle.doll_bundle.proofs.Keeping.{serves_faultless, open_kept_never, open_refused_never}
 use Rattle.doll_bundle.proofs.commits.no_records.Goals as goal
 
 pub unreachable-requires : goal.unreachable-requires
 unreachable-requires c =
     let free : IsFaultless c.new-keeper.result.plan = rw c.new-keeper.ensures.plan (record { failing = c.new.ensures.items; fuse = refl }) in
-    open_refused_never c.in_ok-copy.field-0 c.new-keeper.result.kept c.in-Err.fault c.new-keeper.ensures.kept c.in-Err.ensures.exact
-    (λ failed. let call = c.in-Err.ensures.cause (ap Err failed) in fails_after_none call.3.0 c.new-keeper.result call.0 free call.3.2)
+    open_refused_never c.in_ok-copy.field-0 c.new-keeper.result.kept c.in-Err.refusal.fault c.new-keeper.ensures.kept c.in-Err.ensures.exact
+    (open_kept_never c.in-Err.refusal.fault c.new-keeper.result c.in-Err.refusal.keeper free c.in-Err.ensures.failed)
     c.in_default.not-Memory
 
 pub returns-in-Ok-clause-faultless : goal.returns-in-Ok-clause-faultless

@@ -1,8 +1,9 @@
-use Rattle.std.proofs.Common.{◌≡◌, ◌+◌, ◌<◌, length, Some, None, ◌∙◌, sym, refl, le_refl, le_trans, arith}
+use Rattle.std.proofs.Common.{◌≡◌, ◌+◌, ◌<◌, ◌≤◌, length, Some, None, ◌∙◌, sym, refl, le_refl, le_trans, arith}
 use Rattle.std.proofs.lemmas.Result.{err_from_is_err_and}
 use Rattle.doll_keep.proofs.Serving.{serves_none, serves_more}
 use Rattle.doll_records.specs.declared.fault.OpenFault.TheVariants as faults
 use Rattle.doll_records.specs.Histories.{most_commits}
+use Rattle.doll_records.proofs.Loads.{serves_next, not_loaded, faulty_item}
 use Rattle.doll_records.proofs.Replays.{replays_none, replays_more, one_more, at_place, ends, stops, faulty, too_long}
 use Rattle.doll_records.proofs.opening.replay.Goals as goal
 
@@ -93,4 +94,34 @@ returns-in_default-clause-served g c =
 
 pub returns-in-None-clause-served : goal.returns-in-None-clause-served
 returns-in-None-clause-served g c =
-    rw (← c.loop-index.invariant.0.index) (serves_more g.K.Keeper.called c.loop-index.index c.args.keeper.now c.loop-index.keeper c.load-2.new.self c.loop-index.invariant.1 c.in_ok-load.ensures.called)
+    let full : most_commits ≡ length c.loop-index.past.history.items = omega arith in
+    let at : most_commits ≡ c.loop-index.index = omega arith in
+    rw (← full) (serves_next g.K.Keeper.called c.loop-index.index most_commits c.args.keeper.now c.loop-index.keeper c.load-2.new.self at c.loop-index.invariant.1 c.in_ok-load.ensures.called)
+
+pub returns-in-Some-2-clause-failed : goal.returns-in-Some-2-clause-failed
+returns-in-Some-2-clause-failed g c =
+    let at : most_commits ≡ c.loop-index.index = omega arith in
+    serves_next g.K.Keeper.called c.loop-index.index most_commits c.args.keeper.now c.loop-index.keeper c.load-2.new.self at c.loop-index.invariant.1 c.in_ok-load.ensures.called
+
+pub returns-in_err-past-2-clause-failed : goal.returns-in_err-past-2-clause-failed
+returns-in_err-past-2-clause-failed g c =
+    let p = err_from_is_err_and c.from_residual-in_err-past-2.result c.from_residual-in_err-past-2.ensures.1 in
+    rw (p.1, p.2) (faulty_item g.K.Keeper.called c.loop-index.index c.args.keeper.now c.loop-index.keeper c.load.new.self c.in_err-past-2.field-0.0
+    c.loop-index-test.true c.in_err-past-2.ensures.at c.loop-index.invariant.1 c.in_ok-item.ensures.called)
+
+pub returns-in_err-past-clause-failed : goal.returns-in_err-past-clause-failed
+returns-in_err-past-clause-failed g c =
+    let p = err_from_is_err_and c.from_residual.result c.from_residual.ensures.1 in
+    rw (p.1, p.2) (0, omega arith, serves_none g.K.Keeper.called c.args.keeper.now)
+
+pub returns-in_err-item-clause-failed : goal.returns-in_err-item-clause-failed
+returns-in_err-item-clause-failed g c =
+    let p = err_from_is_err_and c.from_residual-in_err-item.result c.from_residual-in_err-item.ensures.1 in
+    let within : c.loop-index.index ≤ most_commits = omega arith in
+    rw (p.1, p.2) (not_loaded g.K.Keeper.called c.loop-index.index c.loop-index.index c.args.keeper.now c.loop-index.keeper c.load.new.self c.in_err-item.field-0.0 refl within c.loop-index.invariant.1 c.in_err-item.ensures.called)
+
+pub returns-in_err-load-clause-failed : goal.returns-in_err-load-clause-failed
+returns-in_err-load-clause-failed g c =
+    let p = err_from_is_err_and c.from_residual-in_err-load.result c.from_residual-in_err-load.ensures.1 in
+    let at : most_commits ≡ c.loop-index.index = omega arith in
+    rw (p.1, p.2) (not_loaded g.K.Keeper.called c.loop-index.index most_commits c.args.keeper.now c.loop-index.keeper c.load-2.new.self c.in_err-load.field-0.0 at (le_refl most_commits) c.loop-index.invariant.1 c.in_err-load.ensures.called)

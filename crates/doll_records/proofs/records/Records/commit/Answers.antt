@@ -2,9 +2,10 @@ use Rattle.std.proofs.Common.{◌≡◌, ◌+◌, ◌<◌, ◌++◌, ◌∷◌, 
 use Rattle.std.proofs.lemmas.Result.{err_from_is_err_and}
 use Rattle.std.proofs.lemmas.List.{length_push}
 use Rattle.doll_journal.specs.declared.change.Commit.{Commit}
+use Rattle.doll_journal.specs.Spelling.{spelling}
 use Rattle.doll_commit.specs.declared.apply.Applied.{Applied}
 use Rattle.doll_records.specs.Histories.{most_commits}
-use Rattle.doll_records.proofs.Recorded.{asked_refused, asked_accepted, asked_storable, spelled_grown, next_holds, next_carries}
+use Rattle.doll_records.proofs.Recorded.{called_ok, called_err, asked_is, asked_refused, asked_accepted, asked_storable, spelled_grown, next_holds, next_carries}
 use Rattle.doll_records.proofs.records.Records.commit.Goals as goal
 
 pub returns-in_err-table-clause-exact : goal.returns-in_err-table-clause-exact
@@ -60,3 +61,16 @@ returns-clause-moments g c =
     let holds = next_holds inside.schema inside.history.items c.keep.new.history.items inside.table c.as_table.result.now inside.moment commit c.args.now applied
     c.self.invariant.0 room c.if-self-ge-LAST_MOMENT.false (ap (λ (k : Commit). k.moment) c.asked-commit.ensures) c.as_table.ensures storable c.in_ok-table.ensures.exact c.in_ok-table.ensures.fits grown in
     rw (← c.self.view_is) (next_carries inside.schema inside.history.items c.keep.new.history.items inside.table c.as_table.result.now c.in_ok-table.field-0.table inside.moment commit.moment c.self.invariant.0 c.as_table.ensures holds c.in_ok-table.ensures.moments)
+
+pub returns-in_err-keep-clause-called : goal.returns-in_err-keep-clause-called
+returns-in_err-keep-clause-called g c =
+    let inside = c.self.inside in
+    let p = err_from_is_err_and c.from_residual-in_err-keep.result c.from_residual-in_err-keep.ensures.1 in
+    rw (← c.self.view_is, p.1, p.2) (called_err g.K.Keeper.called inside.keeper c.keep.new.keeper _ c.as_slice.result.now c.in_err-keep.field-0.0
+    (c.as_slice.ensures.value ∙ c.in_ok-table.ensures.bytes ∙ ap spelling (asked_is inside.history.items c.args.author c.args.serial c.args.changes c.args.now inside.moment c.asked-commit.result c.self.invariant.0.moment c.asked-commit.ensures)) c.in_err-keep.ensures.called)
+
+pub returns-clause-called : goal.returns-clause-called
+returns-clause-called g c =
+    let inside = c.self.inside in
+    rw (← c.self.view_is) (called_ok g.K.Keeper.called inside.keeper c.keep.new.keeper _ c.as_slice.result.now
+    (c.as_slice.ensures.value ∙ c.in_ok-table.ensures.bytes ∙ ap spelling (asked_is inside.history.items c.args.author c.args.serial c.args.changes c.args.now inside.moment c.asked-commit.result c.self.invariant.0.moment c.asked-commit.ensures)) c.in_ok-keep.ensures.called)
