@@ -4,3 +4,4 @@ pub mod Inputs
 pub mod Memories
 pub mod Readings
 pub mod Streams
+pub mod Systems

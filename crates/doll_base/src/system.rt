@@ -1,8 +1,11 @@
 //! The trusted edge: sources, sinks, a folder and a clock over what the runtime has. They tell no content, since no
 //! contract can say what a stream, a file or a clock of the system holds.
 
-ghost use Rattle.std.specs.Prelude.{◌≡◌, ◌-◌, ◌/◌, ◌^◌, ◌≤◌, length, min, IfOk, None};
+ghost use Rattle.std.specs.Prelude.{◌≡◌, ◌-◌, ◌/◌, ◌^◌, ◌<◌, ◌≤◌, length, take, min, IfOk, OnErr, None};
 ghost use Rattle.std.specs.Duration.{as_nanos};
+ghost use Rattle.std.specs.Io.KnownBytes.{Appends, ReadConsumes};
+ghost use Rattle.doll_base.specs.Faults.{Rose, KeepsCount};
+ghost use Rattle.doll_base.specs.Systems.{AppendsPart};
 
 use crate::clock::Clock;
 use crate::faults::FaultCount;
@@ -42,7 +45,13 @@ impl<R: Read> Source for StdSource<R> {
 
     ghost faults = { λ s. s.faults };
 
-    fn read(&mut self, into: &mut [u8]) -> Result<usize, ReadFault> {
+    fn read(&mut self, into: &mut [u8]) -> Result<usize, ReadFault>
+        ensures fits { IfOk result (λ n. n ≤ length into.old) }
+        ensures cause { OnErr result (Rose self.old.faults self.new.faults) }
+        ensures count { KeepsCount self.old.faults self.new.faults }
+        // What the reader loses, where that is known.
+        ensures reader { ReadConsumes (R.remaining self.old.reader) (R.remaining self.new.reader) result into.new }
+    {
         match read_again(&mut self.reader, into) {
             Ok(count) => Ok(count),
             Err(_) => {
@@ -55,7 +64,8 @@ impl<R: Read> Source for StdSource<R> {
 
 /// Reads once, and again where a signal interrupted that.
 fn read_again<R: Read>(reader: &mut R, into: &mut [u8]) -> io::Result<usize>
-    ensures { IfOk result (λ n. n ≤ length into.old) }
+    ensures fits { IfOk result (λ n. n ≤ length into.old) }
+    ensures reader { ReadConsumes (R.remaining reader.old) (R.remaining reader.new) result into.new }
 {
     for _ in 0..u64::MAX {
         match reader.read(into) {
@@ -95,7 +105,15 @@ impl<W: Write> Sink for StdSink<W> {
 
     ghost faults = { λ s. s.faults };
 
-    fn write(&mut self, from: &[u8]) -> Result<usize, WriteFault> {
+    fn write(&mut self, from: &[u8]) -> Result<usize, WriteFault>
+        ensures fits { IfOk result (λ n. n ≤ length from.now) }
+        ensures some { IfOk result (λ n. 0 < length from.now → 0 < n) }
+        ensures cause { OnErr result (Rose self.old.faults self.new.faults) }
+        ensures count { KeepsCount self.old.faults self.new.faults }
+        // What the writer gains, where that is known; at a fault no more than one write.
+        ensures writer { IfOk result (λ n. Appends (W.contents self.old.writer) (W.contents self.new.writer) (take n from.now)) }
+        ensures part { OnErr result (AppendsPart (W.contents self.old.writer) (W.contents self.new.writer) from.now) }
+    {
         if from.is_empty() {
             return Ok(0);
         }
@@ -114,7 +132,9 @@ impl<W: Write> Sink for StdSink<W> {
 
 /// Writes once and flushes, and writes again where a signal interrupted that.
 fn write_again<W: Write>(writer: &mut W, from: &[u8]) -> io::Result<usize>
-    ensures { IfOk result (λ n. n ≤ length from.now) }
+    ensures fits { IfOk result (λ n. n ≤ length from.now) }
+    ensures writer { IfOk result (λ n. Appends (W.contents writer.old) (W.contents writer.new) (take n from.now)) }
+    ensures part { OnErr result (AppendsPart (W.contents writer.old) (W.contents writer.new) from.now) }
 {
     for _ in 0..u64::MAX {
         match writer.write(from) {
