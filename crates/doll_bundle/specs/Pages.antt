@@ -1,5 +1,5 @@
 -- The pages of a bundle: its schema, its route, its view and the template of that (this project's own).
-use Rattle.std.specs.Prelude.{ℕ, ◌&&◌, nat_le, nat_lt, List, [], ◌∷◌, length, position, bytes_eq, Result, Ok, Err, if◌then◌else◌}
+use Rattle.std.specs.Prelude.{ℕ, ◌&&◌, nat_le, nat_lt, List, length, Result, Ok, Err, if◌then◌else◌}
 use Rattle.std.specs.Option.{ok_or}
 use Rattle.serde_json.specs.Data.{Data}
 use Rattle.serde_json.specs.Find.{as_str}
@@ -8,7 +8,7 @@ use Rattle.doll_schema.specs.Schemas.{schema_of}
 use Rattle.doll_schema.specs.declared.fault.Place.{Place}
 use Rattle.doll_schema.specs.declared.fault.SchemaFault.{SchemaFault}
 use Rattle.doll_schema.specs.declared.fault.SchemaFault.TheVariants as fault
-use Rattle.doll_schema.specs.declared.model.Model.{Model}
+use Rattle.doll_schema.specs.Lookups.{model_named}
 use Rattle.doll_schema.specs.declared.model.Schema.{Schema}
 use Rattle.doll_erb.specs.declared.node.Node.{Node}
 use Rattle.doll_erb.specs.Trees.{tree_of}
@@ -58,8 +58,8 @@ route_path parts = do
   ok_or (record_path parts.path) (route_refusal kind.BadPath)
 
 -- the number of the model that a route names
-abbrev pub model_named : Schema → List ℕ → Result ℕ Refusal
-model_named schema name = ok_or (position (λ (m : Model). bytes_eq m.name name) schema.models) (route_refusal kind.UnknownModel)
+abbrev pub route_model : Schema → List ℕ → Result ℕ Refusal
+route_model schema name = ok_or (model_named schema name) (route_refusal kind.UnknownModel)
 
 -- the source of the view, not too long
 abbrev pub short_source : List ℕ → Result (List ℕ) Refusal
@@ -87,7 +87,7 @@ pages_in parts = do
   schema ← or_schema_refusal (schema_of parts.schema)
   owner ← route_name parts
   path ← route_path parts
-  model ← model_named schema owner
+  model ← route_model schema owner
   source ← source_in parts.source
   tree ← tree_in source
   Ok (record { path = path; model = model; owner = owner; tree = tree; schema = schema })

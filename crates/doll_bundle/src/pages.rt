@@ -1,13 +1,11 @@
 //! The pages of a bundle: its schema, its route, its view and the template of that.
 
-ghost use Rattle.std.specs.Prelude.{◌≡◌, ◌≢◌, ◌<◌, ◌≤◌, true, length, bytes_eq, position, Ok, Err, IfOk, IfSome, MatchResult};
+ghost use Rattle.std.specs.Prelude.{◌≡◌, ◌≢◌, ◌≤◌, true, length, IfOk};
 ghost use Rattle.serde_json.specs.View.{view};
 ghost use Rattle.doll_text.specs.Gives.{Gives, GivesExactly};
-ghost use Rattle.doll_schema.specs.Limits.{AreFewModels};
 ghost use Rattle.doll_schema.specs.Schemas.{schema_of};
-ghost use Rattle.doll_schema.specs.declared.model.Model.{Model};
 ghost use Rattle.doll_plain.specs.Standing as standing;
-ghost use Rattle.doll_bundle.specs.Pages.{schema_refusal, or_schema_refusal, route_refusal, view_refusal, route_path, route_name, model_named, source_in, tree_in, pages_in};
+ghost use Rattle.doll_bundle.specs.Pages.{schema_refusal, or_schema_refusal, route_refusal, view_refusal, route_path, route_name, route_model, source_in, tree_in, pages_in};
 ghost use Rattle.doll_bundle.specs.Seen.{seen_parts};
 
 use crate::form::Parts;
@@ -49,7 +47,7 @@ pub fn pages_in(alloc: Global, parts: &Parts<'_>) -> Result<Pages, Refusal>
     let schema = schema_in(alloc, parts.schema)?;
     let owner = route_name(parts)?;
     let path = route_path(parts)?;
-    let model = model_named(&schema, owner)?;
+    let model = route_model(&schema, owner)?;
     let tree = tree_in(alloc, source_in(parts.source)?)?;
     let path = Name::from_bytes(alloc, path)?;
     let owner = Name::from_bytes(alloc, owner.as_bytes())?;
@@ -84,8 +82,7 @@ fn schema_refusal(fault: SchemaFault) -> Refusal
 }
 
 fn schema_in(alloc: Global, schema: &Value) -> Result<Schema, Refusal>
-    ensures exact { Gives Refusal.Memory (or_schema_refusal (schema_of (view schema.now))) result }
-    ensures few { IfOk result (λ schema. AreFewModels schema.models) }
+    ensures { Gives Refusal.Memory (or_schema_refusal (schema_of (view schema.now))) result }
 {
     match Schema::read(alloc, schema) {
         Ok(schema) => Ok(schema),
@@ -129,25 +126,12 @@ fn route_path<'a>(parts: &Parts<'a>) -> Result<&'a [u8], Refusal>
     }
 }
 
-/// Where the model stands that has a name.
-fn model_at(schema: &Schema, name: &[u8]) -> Option<usize>
-    ensures at { result ≡ position (λ (m : Model). bytes_eq m.name name.now) schema.now.models }
-    ensures within { IfSome result (λ at. at < length schema.now.models) }
-{
-    schema
-        .models
-        .as_slice()
-        .iter()
-        .position(|model| model.name.as_bytes() == name)
-}
-
 /// The number of the model that the route names.
-fn model_named(schema: &Schema, name: &str) -> Result<u16, Refusal>
-    requires { AreFewModels schema.now.models }
-    ensures { result ≡ model_named schema.now name.now }
+fn route_model(schema: &Schema, name: &str) -> Result<u16, Refusal>
+    ensures { result ≡ route_model schema.now name.now }
 {
-    match model_at(schema, name.as_bytes()) {
-        Some(at) => Ok(at as u16),
+    match schema.model_named(name.as_bytes()) {
+        Some(number) => Ok(number),
         None => Err(route_refusal(Kind::UnknownModel)),
     }
 }
