@@ -1,8 +1,8 @@
 -- A history and the table that it leaves, with one commit more.
-use Rattle.std.proofs.Common.{◌≡◌, ℕ, ◌<◌, ◌^◌, true, List, [], ◌∷◌, ◌++◌, length, Option, Some, Result, Ok, Err, IsTrue, nat_lt, refl, sym, arith, ltb-true, lt-ltb}
+use Rattle.std.proofs.Common.{◌≡◌, ℕ, ◌<◌, ◌≤◌, true, List, [], ◌∷◌, ◌++◌, length, Option, Some, Result, Ok, Err, IsTrue, nat_lt, nat_le, refl, sym, arith, ltb-true, lt-ltb}
 use Rattle.std.specs.List.{AllByRecursion}
 use Rattle.std.proofs.lemmas.List.{length_push}
-use Rattle.std.proofs.lemmas.Bool.{and_parts, and_from}
+use Rattle.std.proofs.lemmas.Bool.{and_parts, and_from, le-leb, leb-true}
 use Rattle.doll_schema.specs.declared.model.Schema.{Schema}
 use Rattle.doll_journal.specs.declared.change.Commit.{Commit}
 use Rattle.doll_journal.specs.Storable.{IsStorable}
@@ -12,7 +12,8 @@ use Rattle.doll_table.proofs.Fitting.{empty_fits}
 use Rattle.doll_commit.specs.declared.apply.Applied.{Applied}
 use Rattle.doll_commit.specs.declared.fault.CommitFault.{CommitFault}
 use Rattle.doll_commit.specs.Commits.{commit_of}
-use Rattle.doll_records.specs.Histories.{accepted, made_on, table_of, last_moment, follows, rise, most_commits, Holds}
+use Rattle.doll_records.specs.Histories.{accepted, made_on, table_of, last_moment, follows, rise, Holds}
+use Rattle.doll_records.specs.declared.limits.TheConstants.{MOST_COMMITS, LAST_MOMENT}
 
 -- what follows an accepted commit may be exchanged
 along : (f g : TableMap → Option TableMap) (before after : TableMap) (r : Result Applied CommitFault) → ((t : TableMap) → f t ≡ Some before → g t ≡ Some after) → accepted f r ≡ Some before → accepted g r ≡ Some after
@@ -45,10 +46,10 @@ all-append : {X : Type 0} (P : X → Type 0) (xs : List X) (y : X) → AllByRecu
 all-append P [] y all here = (here, tt)
 all-append P (x ∷ xs) y all here = (all.0, all-append P xs y all.1 here)
 
-pub follows_by : (last : ℕ) (commit : Commit) → IsTrue (follows last commit) → (last < commit.moment) × (commit.moment < 2 ^ 63)
+pub follows_by : (last : ℕ) (commit : Commit) → IsTrue (follows last commit) → (last < commit.moment) × (commit.moment ≤ LAST_MOMENT)
 follows_by last commit f =
-    let parts = and_parts (nat_lt last commit.moment) (nat_lt commit.moment (2 ^ 63)) f in
-    (ltb-true last commit.moment parts.0, ltb-true commit.moment (2 ^ 63) parts.1)
+    let parts = and_parts (nat_lt last commit.moment) (nat_le commit.moment LAST_MOMENT) f in
+    (ltb-true last commit.moment parts.0, leb-true commit.moment LAST_MOMENT parts.1)
 
 pub table_is : (schema : Schema) (history : List Commit) (table : TableMap) (last : ℕ) → Holds schema history table last → table_of schema history ≡ table
 unfolding table_of
@@ -66,11 +67,11 @@ holds_none schema history table none empty = rw (none, empty) (record {
 })
 
 pub holds_grown : (schema : Schema) (history : List Commit) (table : TableMap) (last : ℕ) (commit : Commit) (applied : Applied)
-    → Holds schema history table last → length history < most_commits → last < commit.moment → commit.moment < 2 ^ 63 → IsStorable commit
+    → Holds schema history table last → length history < MOST_COMMITS → last < commit.moment → commit.moment ≤ LAST_MOMENT → IsStorable commit
     → commit_of table schema commit ≡ Ok applied → Fits schema applied.table
     → Holds schema (history ++ commit ∷ []) applied.table commit.moment
 holds_grown schema history table last commit applied holds room later soon storable is fits = record {
-  rises = rise-append 0 history commit holds.rises (rw (← holds.moment) (and_from (nat_lt last commit.moment) (nat_lt commit.moment (2 ^ 63)) (lt-ltb last commit.moment later) (lt-ltb commit.moment (2 ^ 63) soon)));
+  rises = rise-append 0 history commit holds.rises (rw (← holds.moment) (and_from (nat_lt last commit.moment) (nat_le commit.moment LAST_MOMENT) (lt-ltb last commit.moment later) (le-leb commit.moment LAST_MOMENT soon)));
   made = made_on-append schema (empty_table schema) history commit table applied holds.made is;
   moment = sym (last_moment-append 0 history commit);
   fits = fits;

@@ -8,8 +8,8 @@ use Rattle.doll_keep.proofs.Serving.{serves_more}
 use Rattle.doll_records.specs.declared.fault.OpenFault.{OpenFault}
 use Rattle.doll_records.specs.declared.fault.OpenFault.TheVariants as opens
 use Rattle.doll_records.specs.Faults.{open_keep_fault}
-use Rattle.doll_records.specs.Histories.{most_commits}
 use Rattle.doll_records.specs.Openings.{IsOfItem, LoadsUpTo}
+use Rattle.doll_records.specs.declared.limits.TheConstants.{MOST_COMMITS}
 
 -- one load more, by its number
 pub serves_next : {K : Type 0} (Called : Telling K) (loads at : ℕ) (before last after : K) → at ≡ loads → Serves Called loads before last → Called last (Load at) false after → Serves Called (at + 1) before after
@@ -17,13 +17,13 @@ serves_next Called loads at before last after is served called =
     serves_more Called at before last after (subst (λ (n : ℕ). Serves Called n before last) (sym is) served) called
 
 -- a load that gives no answer
-pub not_loaded : {K : Type 0} (Called : Telling K) (loads at : ℕ) (before last after : K) (fault : KeepFault) → at ≡ loads → at ≤ most_commits → Serves Called loads before last
+pub not_loaded : {K : Type 0} (Called : Telling K) (loads at : ℕ) (before last after : K) (fault : KeepFault) → at ≡ loads → at ≤ MOST_COMMITS → Serves Called loads before last
     → Called last (Load at) (has_failed {T = Option (Vec ℕ Global)} (Err fault)) after → LoadsUpTo Called (open_keep_fault fault) before after
 not_loaded Called loads at before last after keep.Failed is within served called = (at, within, (last, subst (λ (n : ℕ). Serves Called n before last) (sym is) served, called))
 not_loaded Called loads at before last after keep.Memory is within served called = (at + 1, omega arith, serves_next Called loads at before last after is served called)
 
 -- a loaded item that has a fault
-pub faulty_item : {K : Type 0} (Called : Telling K) (index : ℕ) (before last after : K) (fault : OpenFault) → index < most_commits → IsOfItem index fault → Serves Called index before last
+pub faulty_item : {K : Type 0} (Called : Telling K) (index : ℕ) (before last after : K) (fault : OpenFault) → index < MOST_COMMITS → IsOfItem index fault → Serves Called index before last
     → Called last (Load index) false after → LoadsUpTo Called fault before after
 faulty_item Called index before last after opens.Kept within of served called = absurd of
 faulty_item Called index before last after (opens.TooLong limit) within of served called = absurd of

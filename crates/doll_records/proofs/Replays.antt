@@ -8,8 +8,9 @@ use Rattle.doll_table.specs.Tables.{TableMap}
 use Rattle.doll_keep.specs.Kept.{GivesItem}
 use Rattle.doll_records.specs.declared.fault.OpenFault.{OpenFault}
 use Rattle.doll_records.specs.declared.fault.OpenFault.TheVariants as opens
-use Rattle.doll_records.specs.Histories.{most_commits, IsSpelled, Holds}
+use Rattle.doll_records.specs.Histories.{IsSpelled, Holds}
 use Rattle.doll_records.specs.Openings.{opened_with, opened_from, opened, OfList}
+use Rattle.doll_records.specs.declared.limits.TheConstants.{MOST_COMMITS}
 
 -- the spellings of a history stand first in a list, where it is told
 abbrev pub IsFront : Option (List (List ℕ)) → List Commit → Type 0
@@ -48,11 +49,11 @@ pub replays_none : (schema : Schema) (kept : Option (List (List ℕ))) (history 
 replays_none schema kept history none = rw none (record { goes_on = λ rest. refl; front = front_none kept })
 
 -- the next item goes on
-pub step : (schema : Schema) (history next : List Commit) (item : List ℕ) (rest : List (List ℕ)) → length history < most_commits → opened_with schema history item ≡ Ok next
+pub step : (schema : Schema) (history next : List Commit) (item : List ℕ) (rest : List (List ℕ)) → length history < MOST_COMMITS → opened_with schema history item ≡ Ok next
     → opened_from schema history (item ∷ rest) ≡ opened_from schema next rest
 unfolding opened_from
 step schema history next item rest room is =
-    let few : nat_lt (length history) most_commits ≡ true = lt-ltb (length history) most_commits room in
+    let few : nat_lt (length history) MOST_COMMITS ≡ true = lt-ltb (length history) MOST_COMMITS room in
     rw (few, is) refl
 
 pub one_more : (history next : List Commit) (item : List ℕ) → map spelling next ≡ map spelling history ++ item ∷ [] → length next ≡ length history + 1
@@ -66,7 +67,7 @@ front_more (Some items) history next item more gives front =
     let split : drop (length history) items ≡ item.items ∷ drop (length history + 1) items = drop_from items (length history) item.items gives in
     rw (count, more) (front ∙ ap (λ xs. map spelling history ++ xs) split ∙ sym (append_assoc (map spelling history) (item.items ∷ []) (drop (length history + 1) items)))
 
-pub replays_more : (schema : Schema) (kept : Option (List (List ℕ))) (history next : List Commit) (item : Vec ℕ Global) → length history < most_commits
+pub replays_more : (schema : Schema) (kept : Option (List (List ℕ))) (history next : List Commit) (item : Vec ℕ Global) → length history < MOST_COMMITS
     → map spelling next ≡ map spelling history ++ item.items ∷ [] → opened_with schema history item.items ≡ Ok next → GivesItem kept (length history) (Some item)
     → Replays schema kept history → Replays schema kept next
 replays_more schema kept history next item room more is gives replays = record {
@@ -96,16 +97,16 @@ stops schema (Some items) history item e gives replays fault =
     λ _ other. ap (opened schema) (replays.front ∙ ap (λ xs. map spelling history ++ xs) (drop_from items (length history) item.items gives)) ∙ replays.goes_on (item.items ∷ drop (length history + 1) items) ∙ fault other (drop (length history + 1) items)
 
 -- an item that gives a fault
-pub faulty : (schema : Schema) (history : List Commit) (item : List ℕ) (rest : List (List ℕ)) (e : OpenFault) → length history < most_commits → opened_with schema history item ≡ Err e
+pub faulty : (schema : Schema) (history : List Commit) (item : List ℕ) (rest : List (List ℕ)) (e : OpenFault) → length history < MOST_COMMITS → opened_with schema history item ≡ Err e
     → opened_from schema history (item ∷ rest) ≡ Err e
 unfolding opened_from
 faulty schema history item rest e room is =
-    let few : nat_lt (length history) most_commits ≡ true = lt-ltb (length history) most_commits room in
+    let few : nat_lt (length history) MOST_COMMITS ≡ true = lt-ltb (length history) MOST_COMMITS room in
     rw (few, is) refl
 
 -- an item too many
-pub too_long : (schema : Schema) (history : List Commit) (item : List ℕ) (rest : List (List ℕ)) → length history ≡ most_commits
-    → opened_from schema history (item ∷ rest) ≡ Err (opens.TooLong most_commits)
+pub too_long : (schema : Schema) (history : List Commit) (item : List ℕ) (rest : List (List ℕ)) → length history ≡ MOST_COMMITS
+    → opened_from schema history (item ∷ rest) ≡ Err (opens.TooLong MOST_COMMITS)
 unfolding opened_from
 too_long schema history item rest full = rw full refl
 

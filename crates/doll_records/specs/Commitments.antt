@@ -1,5 +1,5 @@
 -- What recording a commit after a history comes to (this project's own).
-use Rattle.std.specs.Prelude.{◌≡◌, ◌⊎◌, ℕ, ◌+◌, ◌-◌, ◌^◌, nat_lt, true, false, List, length, Result, Ok, Err}
+use Rattle.std.specs.Prelude.{◌≡◌, ◌⊎◌, ℕ, ◌+◌, nat_lt, true, false, List, length, Result, Ok, Err}
 use Rattle.doll_text.specs.Steps.{◌>>=◌, ◌>>◌, check}
 use Rattle.doll_schema.specs.declared.model.Schema.{Schema}
 use Rattle.doll_journal.specs.declared.change.Change.{Change}
@@ -13,7 +13,8 @@ use Rattle.doll_records.specs.declared.committing.Prepared.{Prepared}
 use Rattle.doll_records.specs.declared.fault.RecordFault.{RecordFault}
 use Rattle.doll_records.specs.declared.fault.RecordFault.TheVariants as records
 use Rattle.doll_records.specs.Faults.{record_commit_fault}
-use Rattle.doll_records.specs.Histories.{table_of, last_moment, next_moment, most_commits}
+use Rattle.doll_records.specs.Histories.{table_of, last_moment, next_moment}
+use Rattle.doll_records.specs.declared.limits.TheConstants.{MOST_COMMITS, LAST_MOMENT}
 
 -- the commit that is asked for at a time, after a history
 abbrev pub asked : List Commit → ℕ → ℕ → List Change → ℕ → Commit
@@ -35,8 +36,8 @@ made prepared = record { table = prepared.table; ids = prepared.ids }
 -- what a commit after a history comes to, while the keeper serves and memory is found
 abbrev pub committed : Schema → List Commit → Commit → Result Committed RecordFault
 committed schema history commit = do
-  check (nat_lt (length history) most_commits) (records.HistoryFull most_commits)
-  check (nat_lt (last_moment 0 history) (2 ^ 63 - 1)) (records.MomentsEnded (2 ^ 63 - 1))
+  check (nat_lt (length history) MOST_COMMITS) (records.HistoryFull MOST_COMMITS)
+  check (nat_lt (last_moment 0 history) LAST_MOMENT) (records.MomentsEnded LAST_MOMENT)
   applied ← or_refused (commit_of (table_of schema history) schema commit)
   Ok (record { place = length history + 1; moment = commit.moment; ids = applied.ids })
 

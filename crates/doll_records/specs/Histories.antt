@@ -1,5 +1,5 @@
 -- Histories: commits whose moments rise, each accepted over the table that those before it leave (this project's own).
-use Rattle.std.specs.Prelude.{ℕ, ◌+◌, ◌^◌, ◌≡◌, ◌≤◌, nat_lt, nat_le, Bool, true, ◌&&◌, List, [], ◌∷◌, map, filter, take, length, Option, None, Some, IsSome, IsTrue, Result, Ok, Err, min, max}
+use Rattle.std.specs.Prelude.{ℕ, ◌+◌, ◌≡◌, ◌≤◌, nat_lt, nat_le, Bool, true, ◌&&◌, List, [], ◌∷◌, map, filter, take, length, Option, None, Some, IsSome, IsTrue, Result, Ok, Err, min, max}
 use Rattle.std.specs.List.{AllByRecursion}
 use Rattle.std.specs.Option.{option_map_or}
 use Rattle.doll_schema.specs.declared.model.Schema.{Schema}
@@ -11,6 +11,7 @@ use Rattle.doll_table.specs.Fits.{Fits}
 use Rattle.doll_commit.specs.declared.apply.Applied.{Applied}
 use Rattle.doll_commit.specs.declared.fault.CommitFault.{CommitFault}
 use Rattle.doll_commit.specs.Commits.{commit_of}
+use Rattle.doll_records.specs.declared.limits.TheConstants.{MOST_COMMITS, LATEST, LAST_MOMENT}
 
 -- what follows a commit, where it is accepted
 abbrev pub accepted : (TableMap → Option TableMap) → Result Applied CommitFault → Option TableMap
@@ -47,11 +48,11 @@ up_to history moment = filter (λ (c : Commit). nat_le c.moment moment) history
 abbrev pub table_up_to : Schema → List Commit → ℕ → Option TableMap
 table_up_to schema history moment = made_on schema (empty_table schema) (up_to history moment)
 
--- a commit's moment is above one before it, and not above 2^63 - 1
+-- a commit's moment is above one before it, and not above the last that there is
 abbrev pub follows : ℕ → Commit → Bool
-follows before commit = nat_lt before commit.moment && nat_lt commit.moment (2 ^ 63)
+follows before commit = nat_lt before commit.moment && nat_le commit.moment LAST_MOMENT
 
--- moments rise strictly from one before them, and none is above 2^63 - 1
+-- moments rise strictly from one before them, and none is above the last that there is
 unfoldable pub rise : ℕ → List Commit → Bool
 rise before [] = true
 rise before (commit ∷ commits) = follows before commit && rise commit.moment commits
@@ -67,13 +68,9 @@ abbrev pub MomentsTellPlaces : Type 0
 MomentsTellPlaces = (schema : Schema) (history : List Commit) (place : ℕ) → IsHistory schema history → place ≤ length history
     → (up_to history (moment_at history place) ≡ take place history) × (table_up_to schema history (moment_at history place) ≡ table_at schema history place)
 
--- the most commits of a history
-abbrev pub most_commits : ℕ
-most_commits = 4000000
-
 -- the moment of a commit that is asked for at a time, after the last one
 abbrev pub next_moment : ℕ → ℕ → ℕ
-next_moment before now = max (min now (2 ^ 62)) (before + 1)
+next_moment before now = max (min now LATEST) (before + 1)
 
 -- What is held of a history beside its commits: the table that they leave, and the moment of the last.
 pub record Holds (schema : Schema) (history : List Commit) (table : TableMap) (last : ℕ) : Type 0 where
@@ -82,7 +79,7 @@ pub record Holds (schema : Schema) (history : List Commit) (table : TableMap) (l
   pub moment : last ≡ last_moment 0 history
   pub fits : Fits schema table
   pub storable : AllByRecursion IsStorable history
-  pub short : length history ≤ most_commits
+  pub short : length history ≤ MOST_COMMITS
 
 -- A keeper's list, where it is told, is the spellings of a history in order.
 abbrev pub IsSpelled : Option (List (List ℕ)) → List Commit → Type 0

@@ -17,7 +17,8 @@ use Rattle.doll_records.specs.declared.fault.OpenFault.{OpenFault}
 use Rattle.doll_records.specs.declared.fault.OpenFault.TheVariants as opens
 use Rattle.doll_records.specs.declared.opening.OpenRefusal.{OpenRefusal}
 use Rattle.doll_records.specs.Faults.{GivesKept}
-use Rattle.doll_records.specs.Histories.{Recorded, IsHistory, table_of, last_moment, follows, most_commits}
+use Rattle.doll_records.specs.Histories.{Recorded, IsHistory, table_of, last_moment, follows}
+use Rattle.doll_records.specs.declared.limits.TheConstants.{MOST_COMMITS}
 
 -- the faults of the item with an index
 abbrev pub or_journal : ℕ → Result Commit JournalFault → Result Commit OpenFault
@@ -41,7 +42,7 @@ opened_with schema history item = do
 unfoldable pub opened_from : Schema → List Commit → List (List ℕ) → Result (List Commit) OpenFault
 opened_from schema history [] = Ok history
 opened_from schema history (item ∷ items) = do
-  check (nat_lt (length history) most_commits) (opens.TooLong most_commits)
+  check (nat_lt (length history) MOST_COMMITS) (opens.TooLong MOST_COMMITS)
   next ← opened_with schema history item
   opened_from schema next items
 
@@ -70,8 +71,8 @@ IsOfItem index (opens.TooLong limit) = ⊥
 
 -- the calls of the keeper up to a fault: loads of the first items, of which that of the fault is the last
 abbrev pub LoadsUpTo : {K : Type 0} → Telling K → OpenFault → K → K → Type 0
-LoadsUpTo Called opens.Kept before after = (loads : ℕ) × (loads ≤ most_commits) × FailsAfter Called loads before after
-LoadsUpTo Called opens.Memory before after = (loads : ℕ) × (loads ≤ most_commits + 1) × Serves Called loads before after
+LoadsUpTo Called opens.Kept before after = (loads : ℕ) × (loads ≤ MOST_COMMITS) × FailsAfter Called loads before after
+LoadsUpTo Called opens.Memory before after = (loads : ℕ) × (loads ≤ MOST_COMMITS + 1) × Serves Called loads before after
 LoadsUpTo Called (opens.Journal at fault) before after = Serves Called (at + 1) before after
 LoadsUpTo Called (opens.Moment at moment) before after = Serves Called (at + 1) before after
 LoadsUpTo Called (opens.Apply at change why) before after = Serves Called (at + 1) before after
@@ -89,4 +90,4 @@ or_fault (Err refusal) = Err refusal.fault
 
 -- a history whose commits can be stored is opened from its spellings as it is
 abbrev pub OpensAgain : Type 0
-OpensAgain = (schema : Schema) (history : List Commit) → IsHistory schema history → AllByRecursion IsStorable history → length history ≤ most_commits → opened schema (map spelling history) ≡ Ok history
+OpensAgain = (schema : Schema) (history : List Commit) → IsHistory schema history → AllByRecursion IsStorable history → length history ≤ MOST_COMMITS → opened schema (map spelling history) ≡ Ok history

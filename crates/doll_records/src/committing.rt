@@ -16,6 +16,7 @@ ghost use Rattle.doll_records.specs.Faults.{GivesKept};
 ghost use Rattle.doll_records.specs.declared.fault.RecordFault.TheVariants as faults;
 
 use crate::fault::RecordFault;
+use crate::limits::{LAST_MOMENT, LATEST, MOST_COMMITS};
 use crate::records::{Records, SharedTable};
 use doll_commit::apply;
 use doll_journal::{Changes, Commit, encode};
@@ -24,15 +25,6 @@ use doll_schema::Schema;
 use doll_table::Table;
 use doll_text::Ids;
 use std::alloc::Global;
-
-/// The most commits of a history.
-pub const MOST_COMMITS: u64 = 4_000_000;
-
-/// The latest time that counts, in microseconds: 2^62.
-const LATEST: u64 = 4_611_686_018_427_387_904;
-
-/// The moment after which there is none: 2^63 - 1.
-pub const LAST_MOMENT: u64 = 9_223_372_036_854_775_807;
 
 /// A commit that was recorded.
 #[derive(Drop)]
@@ -78,7 +70,7 @@ fn prepare(
 
 /// The commit that is asked for at a time, after the last moment.
 fn asked(last: u64, author: u32, serial: u64, changes: Changes, now: u64) -> Commit
-    requires { last + 1 < 2 ^ 63 }
+    requires { last < LAST_MOMENT }
     ensures { result ≡ record { author = author; serial = serial; moment = next_moment last now; changes = changes } }
 {
     Commit {

@@ -62,14 +62,6 @@ impl From<Memory> for OpenFault {
     }
 }
 
-impl From<AllocError> for OpenFault {
-    ghost from_gives = { λ _ e. e ≡ opens.Memory };
-
-    fn from(_error: AllocError) -> OpenFault {
-        OpenFault::Memory
-    }
-}
-
 impl<T: Drop> From<AllocFailed<T>> for OpenFault {
     ghost from_gives = { λ _ e. e ≡ opens.Memory };
 

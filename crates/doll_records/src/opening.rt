@@ -10,12 +10,12 @@ ghost use Rattle.doll_journal.specs.Spelling.{spelling};
 ghost use Rattle.doll_journal.specs.Storable.{IsStorable};
 ghost use Rattle.doll_table.specs.Fits.{Fits};
 ghost use Rattle.doll_commit.specs.Commits.{commit_of};
-ghost use Rattle.doll_records.specs.Histories.{Holds, IsSpelled, follows, most_commits};
+ghost use Rattle.doll_records.specs.Histories.{Holds, IsSpelled, follows};
 ghost use Rattle.doll_records.specs.Openings.{or_journal, or_apply, opened_with, IsOfItem, GivesOpened, LoadsUpTo, keeper_after, or_fault, OpensAgain};
 ghost use Rattle.doll_records.specs.declared.fault.OpenFault.TheVariants as faults;
 
-use crate::committing::{LAST_MOMENT, MOST_COMMITS};
 use crate::fault::OpenFault;
+use crate::limits::{LAST_MOMENT, MOST_COMMITS};
 use crate::records::{Records, SharedTable};
 use doll_commit::{Applied, CommitFault, apply};
 use doll_journal::{Commit, JournalFault, decode};
@@ -112,7 +112,7 @@ fn with_item(
 ) -> Result<Past, OpenFault>
     requires holds { Holds schema.now past.history.items past.table past.moment }
     requires index { index ≡ length past.history.items }
-    requires room { index < most_commits }
+    requires room { index < MOST_COMMITS }
     ensures exact { GivesBy (λ next. next.history.items) OpenFault.Memory (opened_with schema.now past.history.items item.now) result }
     ensures holds { IfOk result (λ next. Holds schema.now next.history.items next.table next.moment) }
     ensures item { IfOk result (λ next. map spelling next.history.items ≡ map spelling past.history.items ++ item.now ∷ []) }

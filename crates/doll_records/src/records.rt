@@ -4,8 +4,9 @@ ghost use Rattle.std.specs.Prelude.{◌≡◌, ◌≤◌, length, Some, IfOk};
 ghost use Rattle.std.specs.List.{AllByRecursion};
 ghost use Rattle.doll_journal.specs.Storable.{IsStorable};
 ghost use Rattle.doll_table.specs.Fits.{Fits};
-ghost use Rattle.doll_records.specs.Histories.{IsHistory, IsSpelled, MomentsTellPlaces, table_at, table_of, moment_at, most_commits};
+ghost use Rattle.doll_records.specs.Histories.{IsHistory, IsSpelled, MomentsTellPlaces, table_at, table_of, moment_at};
 
+use crate::limits::MOST_COMMITS;
 use doll_journal::Commit;
 use doll_keep::Keeper;
 use doll_schema::Schema;
@@ -95,7 +96,7 @@ impl<K: Keeper> Records<K> {
         ensures commits { result.now ≡ self.now.history }
         ensures is_history { IsHistory self.now.schema self.now.history }
         ensures storable { AllByRecursion IsStorable self.now.history }
-        ensures short { length self.now.history ≤ most_commits }
+        ensures short { length self.now.history ≤ MOST_COMMITS }
         ensures spelled { IsSpelled (K.kept self.now.keeper) self.now.history }
     {
         self.history.as_slice()

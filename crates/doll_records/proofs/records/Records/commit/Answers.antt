@@ -4,15 +4,15 @@ use Rattle.std.proofs.lemmas.List.{length_push}
 use Rattle.doll_journal.specs.declared.change.Commit.{Commit}
 use Rattle.doll_journal.specs.Spelling.{spelling}
 use Rattle.doll_commit.specs.declared.apply.Applied.{Applied}
-use Rattle.doll_records.specs.Histories.{most_commits}
 use Rattle.doll_records.proofs.Recorded.{called_ok, called_err, asked_is, asked_refused, asked_accepted, asked_storable, spelled_grown, next_holds, next_carries}
+use Rattle.doll_records.specs.declared.limits.TheConstants.{MOST_COMMITS}
 use Rattle.doll_records.proofs.records.Records.commit.Goals as goal
 
 pub returns-in_err-table-clause-exact : goal.returns-in_err-table-clause-exact
 returns-in_err-table-clause-exact g c =
     let p = err_from_is_err_and c.from_residual.result c.from_residual.ensures.1 in
     let inside = c.self.inside in
-    let room : length c.self.inside.history.items < most_commits = rw (c.len.ensures, c.self.inside.history.ok.0) at c.if-len-ge-MOST_COMMITS.false in
+    let room : length c.self.inside.history.items < MOST_COMMITS = rw (c.len.ensures, c.self.inside.history.ok.0) at c.if-len-ge-MOST_COMMITS.false in
     rw (← c.self.view_is, p.1, p.2) (λ _ other.
     asked_refused inside.schema inside.history.items inside.table c.as_table.result.now inside.moment c.args.author c.args.serial c.args.changes c.args.now c.asked-commit.result c.in_err-table.field-0.0
     c.self.invariant.0 room c.if-self-ge-LAST_MOMENT.false c.asked-commit.ensures c.as_table.ensures (c.in_err-table.ensures.exact other))
@@ -20,7 +20,7 @@ returns-in_err-table-clause-exact g c =
 pub returns-in_err-keep-clause-last : goal.returns-in_err-keep-clause-last
 returns-in_err-keep-clause-last g c =
     let inside = c.self.inside in
-    let room : length c.self.inside.history.items < most_commits = rw (c.len.ensures, c.self.inside.history.ok.0) at c.if-len-ge-MOST_COMMITS.false in
+    let room : length c.self.inside.history.items < MOST_COMMITS = rw (c.len.ensures, c.self.inside.history.ok.0) at c.if-len-ge-MOST_COMMITS.false in
     let applied : Applied = record { table = c.in_ok-table.field-0.table; ids = c.in_ok-table.field-0.ids } in
     let ok = asked_accepted inside.schema inside.history.items inside.table c.as_table.result.now inside.moment c.args.author c.args.serial c.args.changes c.args.now (length inside.history.items + 1) c.asked-commit.result applied
     c.self.invariant.0 room c.if-self-ge-LAST_MOMENT.false c.asked-commit.ensures refl c.as_table.ensures c.in_ok-table.ensures.exact in
@@ -30,7 +30,7 @@ pub invariant_of-self-2 : goal.invariant_of-self-2
 invariant_of-self-2 g c =
     let inside = c.self.inside in
     let commit = c.asked-commit.result in
-    let room : length c.self.inside.history.items < most_commits = rw (c.len.ensures, c.self.inside.history.ok.0) at c.if-len-ge-MOST_COMMITS.false in
+    let room : length c.self.inside.history.items < MOST_COMMITS = rw (c.len.ensures, c.self.inside.history.ok.0) at c.if-len-ge-MOST_COMMITS.false in
     let applied : Applied = record { table = c.in_ok-table.field-0.table; ids = c.in_ok-table.field-0.ids } in
     let grown = c.in_ok-keep.ensures.history ∙ ap (λ (xs : List Commit). xs ++ c.asked-commit.result ∷ []) c.reserve.ensures.items in
     let spelled = spelled_grown (g.K.Keeper.kept inside.keeper) (g.K.Keeper.kept c.keep.new.keeper) inside.history.items commit c.as_slice.result.now c.self.invariant.1 (c.as_slice.ensures.value ∙ c.in_ok-table.ensures.bytes) c.in_ok-keep.ensures.added in
@@ -43,7 +43,7 @@ invariant_of-self-2 g c =
 pub returns-clause-exact : goal.returns-clause-exact
 returns-clause-exact g c =
     let inside = c.self.inside in
-    let room : length c.self.inside.history.items < most_commits = rw (c.len.ensures, c.self.inside.history.ok.0) at c.if-len-ge-MOST_COMMITS.false in
+    let room : length c.self.inside.history.items < MOST_COMMITS = rw (c.len.ensures, c.self.inside.history.ok.0) at c.if-len-ge-MOST_COMMITS.false in
     let applied : Applied = record { table = c.in_ok-table.field-0.table; ids = c.in_ok-table.field-0.ids } in
     let grown = c.in_ok-keep.ensures.history ∙ ap (λ (xs : List Commit). xs ++ c.asked-commit.result ∷ []) c.reserve.ensures.items in
     let place : c.len-2.result ≡ length c.self.inside.history.items + 1 = c.len-2.ensures ∙ c.keep.new.history.ok.0 ∙ ap length grown ∙ length_push c.self.inside.history.items c.asked-commit.result in
@@ -54,7 +54,7 @@ pub returns-clause-moments : goal.returns-clause-moments
 returns-clause-moments g c =
     let inside = c.self.inside in
     let commit = c.asked-commit.result in
-    let room : length c.self.inside.history.items < most_commits = rw (c.len.ensures, c.self.inside.history.ok.0) at c.if-len-ge-MOST_COMMITS.false in
+    let room : length c.self.inside.history.items < MOST_COMMITS = rw (c.len.ensures, c.self.inside.history.ok.0) at c.if-len-ge-MOST_COMMITS.false in
     let applied : Applied = record { table = c.in_ok-table.field-0.table; ids = c.in_ok-table.field-0.ids } in
     let grown = c.in_ok-keep.ensures.history ∙ ap (λ (xs : List Commit). xs ++ c.asked-commit.result ∷ []) c.reserve.ensures.items in
     let storable = asked_storable c.args.author c.args.serial inside.moment c.args.now c.args.changes commit c.ranges.author.fits c.ranges.serial.fits c.if-self-ge-LAST_MOMENT.false c.requires c.asked-commit.ensures in
