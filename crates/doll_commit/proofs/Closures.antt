@@ -14,13 +14,7 @@ use Rattle.std.proofs.lemmas.List.{append-nil, length-append, length-map}
 use Rattle.std.proofs.lemmas.List.Folds.{list_any-append, list_any_at}
 use Rattle.doll_schema.specs.declared.value.Row.{Row}
 use Rattle.doll_table.specs.Tables.{Extent, TableMap, row_of}
-use Rattle.doll_commit.specs.Refs.{Ref, is_ref, has, with_ref, with_refs, SameRefs, count_of, with_next, closure}
-
-pub same_bool : (a b : Bool) → (a ≡ true → b ≡ true) → (b ≡ true → a ≡ true) → a ≡ b
-same_bool true true f g = refl
-same_bool true false f g = absurd (true≢false (sym (f refl)))
-same_bool false true f g = absurd (true≢false (sym (g refl)))
-same_bool false false f g = refl
+use Rattle.doll_commit.specs.Refs.{Ref, is_ref, has, with_ref, with_refs, count_of, with_next, closure}
 
 -- the test of two records
 
@@ -56,9 +50,6 @@ has_one x r h = by_cases (or_cases (is_ref r x) false h)
     by_cases (inl t) = sym (is_ref-true r x t)
     by_cases (inr f) = absurd (true≢false (sym f))
 
-pub has_itself : (x : Ref) → has (x ∷ []) x ≡ true
-has_itself x = or_left (is_ref x x) false (is_ref_itself x)
-
 pub has_at : (xs : List Ref) (k : ℕ) (d : Ref) → k < length xs → has xs (get_or xs k d) ≡ true
 has_at xs k d l = list_any_at (is_ref (get_or xs k d)) xs k d l (is_ref_itself (get_or xs k d))
 
@@ -85,13 +76,49 @@ from_next next (y ∷ xs) r h = by_cases (λ t. from_next next xs r t) (has_case
     by_cases behind (inl t) = (y, or_left (is_ref y y) (has xs y) (is_ref_itself y), t)
     by_cases behind (inr t) = let found = behind t in (found.0, or_right (is_ref found.0 y) (has xs found.0) found.1, found.2)
 
-pub next_within : (next : Ref → List Ref) (xs ys : List Ref) → Within xs ys → Within (flat_map next xs) (flat_map next ys)
-next_within next xs ys w r h = let found = from_next next xs r h in has_next next ys found.0 r (w found.0 found.1) found.2
+-- records that are added, each once
+
+pub with_has : (xs : List Ref) (x r : Ref) → has (with_ref xs x) r ≡ has (xs ++ x ∷ []) r
+with_has xs x r = by_test (has xs x) refl (has r_in r) refl
+  where
+    r_in : List Ref
+    r_in = x ∷ []
+
+    same : has xs x ≡ true → has r_in r ≡ true → has xs r ≡ true
+    same t u = ap (has xs) (sym (has_one x r u)) ∙ t
+
+    known : (u : Bool) → has r_in r ≡ u → has xs x ≡ true → has xs r ≡ (has xs r || u)
+    known true u t = let h = same t u in rw h refl
+    known false u t = or_none (has xs r)
+      where
+        or_none : (b : Bool) → b ≡ (b || false)
+        or_none true = refl
+        or_none false = refl
+
+    by_test : (b : Bool) → has xs x ≡ b → (u : Bool) → has r_in r ≡ u → has (cond b xs (xs ++ x ∷ [])) r ≡ has (xs ++ x ∷ []) r
+    by_test true t u e = known u e t ∙ (ap (λ v. has xs r || v) (sym e) ∙ sym (has-append xs (x ∷ []) r))
+    by_test false t u e = refl
+
+-- records added each once are the same records
+pub with_all_has : (xs ys : List Ref) (r : Ref) → has (with_refs xs ys) r ≡ has (xs ++ ys) r
+with_all_has xs [] r = ap (λ zs. has zs r) (sym (append-nil xs))
+with_all_has xs (y ∷ ys) r =
+    with_all_has (with_ref xs y) ys r
+    ∙ (has-append (with_ref xs y) ys r ∙ (ap (λ b. b || has ys r) (with_has xs y r) ∙ (sym (has-append (xs ++ y ∷ []) ys r) ∙ ap (λ zs. has zs r) (append_assoc xs (y ∷ []) ys))))
+
+pub next_cases : (next : Ref → List Ref) (xs : List Ref) (r : Ref) → has (with_next next xs) r ≡ true → (has xs r ≡ true) ⊎ (has (flat_map next xs) r ≡ true)
+next_cases next xs r h = has_cases xs (flat_map next xs) r (sym (with_all_has xs (flat_map next xs) r) ∙ h)
+
+pub next_left : (next : Ref → List Ref) (xs : List Ref) (r : Ref) → has xs r ≡ true → has (with_next next xs) r ≡ true
+next_left next xs r h = with_all_has xs (flat_map next xs) r ∙ has_left xs (flat_map next xs) r h
+
+pub next_right : (next : Ref → List Ref) (xs : List Ref) (r : Ref) → has (flat_map next xs) r ≡ true → has (with_next next xs) r ≡ true
+next_right next xs r h = with_all_has xs (flat_map next xs) r ∙ has_right xs (flat_map next xs) r h
 
 -- what holds of records and goes on by steps holds of all that steps lead to
 pub iterate_all : (P : Ref → Type 0) (next : Ref → List Ref) → ((q r : Ref) → P q → has (next q) r ≡ true → P r) → (n : ℕ) (xs : List Ref) → ((r : Ref) → has xs r ≡ true → P r) → (r : Ref) → has (iterate (with_next next) n xs) r ≡ true → P r
 iterate_all P next step zero xs first r h = first r h
-iterate_all P next step (suc n) xs first r h = iterate_all P next step n (with_next next xs) (λ q k. more q (has_cases xs (flat_map next xs) q k)) r h
+iterate_all P next step (suc n) xs first r h = iterate_all P next step n (with_next next xs) (λ q k. more q (next_cases next xs q k)) r h
   where
     more : (q : Ref) → (has xs q ≡ true) ⊎ (has (flat_map next xs) q ≡ true) → P q
     more q (inl k) = first q k
@@ -99,7 +126,7 @@ iterate_all P next step (suc n) xs first r h = iterate_all P next step n (with_n
 
 pub iterate_begins : (next : Ref → List Ref) (n : ℕ) (xs : List Ref) → Within xs (iterate (with_next next) n xs)
 iterate_begins next zero xs r h = h
-iterate_begins next (suc n) xs r h = iterate_begins next n (with_next next xs) r (has_left xs (flat_map next xs) r h)
+iterate_begins next (suc n) xs r h = iterate_begins next n (with_next next xs) r (next_left next xs r h)
 
 -- the living records of extents, of which the first has a number
 abbrev pub living_from : ℕ → List Extent → List Ref
@@ -187,13 +214,13 @@ pub record IsClosed (next : Ref → List Ref) (refs : List Ref) : Type 0 where
 
 -- these and those that a step leads to are no others, where these are closed
 closed_more : (next : Ref → List Ref) (refs : List Ref) → IsClosed next refs → (r : Ref) → has (with_next next refs) r ≡ true → has refs r ≡ true
-closed_more next refs c r h = elim (has_cases refs (flat_map next refs) r h) [ inl k ↦ k | inr k ↦ led (from_next next refs r k) ]
+closed_more next refs c r h = elim (next_cases next refs r h) [ inl k ↦ k | inr k ↦ led (from_next next refs r k) ]
   where
     led : (q : Ref) × (has refs q ≡ true) × (has (next q) r ≡ true) → has refs r ≡ true
     led w = c.under w.0 r w.1 w.2
 
 closed_next : (next : Ref → List Ref) (refs : List Ref) → IsClosed next refs → IsClosed next (with_next next refs)
-closed_next next refs c = record { under = λ r p h k. has_left refs (flat_map next refs) p (c.under r p (closed_more next refs c r h) k) }
+closed_next next refs c = record { under = λ r p h k. next_left next refs p (c.under r p (closed_more next refs c r h) k) }
 
 closed_stays : (next : Ref → List Ref) (n : ℕ) (refs : List Ref) → IsClosed next refs → IsClosed next (iterate (with_next next) n refs)
 closed_stays next zero refs c = c
@@ -205,20 +232,20 @@ LivesBetween next table = (q r p : Ref) → has (next q) r ≡ true → has (nex
 
 -- a step that adds no living record led to all
 closed_from : (next : Ref → List Ref) (all : List Ref) → ((q r p : Ref) → has (next q) r ≡ true → has (next r) p ≡ true → has all r ≡ true) → (refs : List Ref) → missing (with_next next refs) all ≡ missing refs all → IsClosed next (with_next next refs)
-closed_from next all between refs e = record { under = λ r p h k. has_right refs (flat_map next refs) p (has_next next refs r p (was r p k (has_cases refs (flat_map next refs) r h)) k) }
+closed_from next all between refs e = record { under = λ r p h k. next_right next refs p (has_next next refs r p (was r p k (next_cases next refs r h)) k) }
   where
     was : (r p : Ref) → has (next r) p ≡ true → (has refs r ≡ true) ⊎ (has (flat_map next refs) r ≡ true) → has refs r ≡ true
     was r p k (inl h) = h
     was r p k (inr h) =
         let from = from_next next refs r h in
-        had refs (with_next next refs) all (λ q. has_left refs (flat_map next refs) q) e r (between from.0 r p from.2 k) (has_right refs (flat_map next refs) r h)
+        had refs (with_next next refs) all (next_left next refs) e r (between from.0 r p from.2 k) (next_right next refs r h)
 
 -- steps more often than records are missing lead to all
 closed_by : (next : Ref → List Ref) (all : List Ref) → ((q r p : Ref) → has (next q) r ≡ true → has (next r) p ≡ true → has all r ≡ true) → (n : ℕ) (refs : List Ref) → missing refs all < n → IsClosed next (iterate (with_next next) n refs)
 closed_by next all between zero refs l = absurd (omega arith)
 closed_by next all between (suc n) refs l = elim (cases_lt (missing (with_next next refs) all) (missing refs all)) [
   | inl less ↦ closed_by next all between n (with_next next refs) (omega arith)
-  | inr more ↦ (let f = fewer refs (with_next next refs) all (λ q. has_left refs (flat_map next refs) q) in
+  | inr more ↦ (let f = fewer refs (with_next next refs) all (next_left next refs) in
       closed_stays next n (with_next next refs) (closed_from next all between refs (omega arith)))
 ]
 
@@ -228,61 +255,9 @@ closure_closed next table between refs =
     closed_by next (living_from 0 table.extents) (λ q r p h k. lives_among table r (between q r p h k)) (count_of table.extents + 1) refs
     (let few = missing_within refs (living_from 0 table.extents) in omega (arith, few, length_living 0 table.extents))
 
--- records that are added, each once
-
-pub with_has : (xs : List Ref) (x r : Ref) → has (with_ref xs x) r ≡ has (xs ++ x ∷ []) r
-with_has xs x r = by_test (has xs x) refl (has r_in r) refl
-  where
-    r_in : List Ref
-    r_in = x ∷ []
-
-    same : has xs x ≡ true → has r_in r ≡ true → has xs r ≡ true
-    same t u = ap (has xs) (sym (has_one x r u)) ∙ t
-
-    known : (u : Bool) → has r_in r ≡ u → has xs x ≡ true → has xs r ≡ (has xs r || u)
-    known true u t = let h = same t u in rw h refl
-    known false u t = or_none (has xs r)
-      where
-        or_none : (b : Bool) → b ≡ (b || false)
-        or_none true = refl
-        or_none false = refl
-
-    by_test : (b : Bool) → has xs x ≡ b → (u : Bool) → has r_in r ≡ u → has (cond b xs (xs ++ x ∷ [])) r ≡ has (xs ++ x ∷ []) r
-    by_test true t u e = known u e t ∙ (ap (λ v. has xs r || v) (sym e) ∙ sym (has-append xs (x ∷ []) r))
-    by_test false t u e = refl
-
--- records added each once are the same records
-pub with_all_has : (xs ys : List Ref) → SameRefs (with_refs xs ys) (xs ++ ys)
-with_all_has xs [] r = ap (λ zs. has zs r) (sym (append-nil xs))
-with_all_has xs (y ∷ ys) r =
-    with_all_has (with_ref xs y) ys r
-    ∙ (has-append (with_ref xs y) ys r ∙ (ap (λ b. b || has ys r) (with_has xs y r) ∙ (sym (has-append (xs ++ y ∷ []) ys r) ∙ ap (λ zs. has zs r) (append_assoc xs (y ∷ []) ys))))
-
 -- a closure has the records that it begins with
 pub closure_begins : (next : Ref → List Ref) (table : TableMap) (xs : List Ref) → Within xs (closure next table xs)
 closure_begins next table xs = iterate_begins next (count_of table.extents + 1) xs
-
--- and none that isn't among records that have these and are closed
-pub closure_within : (next : Ref → List Ref) (table : TableMap) (xs all : List Ref) → Within xs all → IsClosed next all → Within (closure next table xs) all
-closure_within next table xs all first closed = iterate_all (λ r. has all r ≡ true) next (λ q r h k. closed.under q r h k) (count_of table.extents + 1) xs first
-
--- closures from the same seeds
-
-iterate_within : (next : Ref → List Ref) (n : ℕ) (xs ys : List Ref) → Within xs ys → Within (iterate (with_next next) n xs) (iterate (with_next next) n ys)
-iterate_within next zero xs ys w = w
-iterate_within next (suc n) xs ys w = iterate_within next n (with_next next xs) (with_next next ys) (λ r h. by_cases r (has_cases xs (flat_map next xs) r h))
-  where
-    by_cases : (r : Ref) → (has xs r ≡ true) ⊎ (has (flat_map next xs) r ≡ true) → has (ys ++ flat_map next ys) r ≡ true
-    by_cases r (inl t) = has_left ys (flat_map next ys) r (w r t)
-    by_cases r (inr t) = has_right ys (flat_map next ys) r (next_within next xs ys w r t)
-
-pub within_same : (xs ys : List Ref) → SameRefs xs ys → Within xs ys
-within_same xs ys same r h = sym (same r) ∙ h
-
-pub closure_same : (next : Ref → List Ref) (table : TableMap) (xs ys : List Ref) → SameRefs xs ys → SameRefs (closure next table xs) (closure next table ys)
-closure_same next table xs ys same r =
-    same_bool (has (closure next table xs) r) (has (closure next table ys) r) (iterate_within next (count_of table.extents + 1) xs ys (within_same xs ys same) r)
-    (iterate_within next (count_of table.extents + 1) ys xs (λ q h. same q ∙ h) r)
 
 -- what holds of the records that it begins with and of those that steps lead to holds of all
 pub closure_all : (P : Ref → Type 0) (next : Ref → List Ref) (table : TableMap) (xs : List Ref) → ((r : Ref) → has xs r ≡ true → P r) → ((x r : Ref) → has (next x) r ≡ true → P r) → (r : Ref) → has (closure next table xs) r ≡ true → P r

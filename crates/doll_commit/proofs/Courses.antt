@@ -12,16 +12,16 @@ use Rattle.doll_schema.specs.declared.model.Model.{Model}
 use Rattle.doll_schema.specs.declared.model.Schema.{Schema}
 use Rattle.doll_journal.specs.declared.change.Change.{Change}
 use Rattle.doll_journal.specs.declared.change.Change.TheVariants as change
-use Rattle.doll_table.specs.Tables.{Extent, TableMap, row_of, next_of, put_row, put_next, without_row}
+use Rattle.doll_table.specs.Tables.{Extent, TableMap, row_of, next_of, put_row, put_next}
 use Rattle.doll_table.proofs.Growing.{row_of_put, row_of_next, row_of_without}
 use Rattle.doll_commit.specs.declared.fault.Why.{Why}
 use Rattle.doll_commit.specs.declared.fault.Why.TheVariants as why
-use Rattle.doll_commit.specs.Refs.{Ref, is_ref, has}
+use Rattle.doll_commit.specs.Refs.{Ref, is_ref, has, with_refs}
 use Rattle.doll_commit.specs.Given.{Given}
 use Rattle.doll_commit.specs.Removed.{removed_with, is_restricted, without_rows}
 use Rattle.doll_commit.specs.Changes.{Made, model_of, living, created_row, updated_row, create, update, destroy_all, destroy, touch, made}
 use Rattle.doll_commit.specs.Commits.{row_touches, touch_parents, touched_at_once, Course, after_change, or_refused, all_made}
-use Rattle.doll_commit.proofs.Closures.{has_left, has_right, has_next}
+use Rattle.doll_commit.proofs.Closures.{has_left, has_right, has_next, with_all_has}
 
 -- a change leaves the rows of the records that it didn't change
 pub record Leaves (before : TableMap) (made : Made) : Type 0 where
@@ -63,20 +63,20 @@ put_other table model id row r h = elim (cases_lt model (length table.extents)) 
 without_other : (removed : List Ref) (table : TableMap) (r : Ref) → has removed r ≡ false → row_of (without_rows table removed) r.0 r.1 ≡ row_of table r.0 r.1
 without_other [] table r h = refl
 without_other (gone ∷ removed) table r h =
-    without_other removed (without_row table gone.0 gone.1) r (not_second (is_ref r gone) (has removed r) h)
-    ∙ (row_of_without table gone.0 gone.1 r.0 r.1 ∙ ap (λ b. cond b None (row_of table r.0 r.1)) (not_first (is_ref r gone) (has removed r) h))
+    row_of_without (without_rows table removed) gone.0 gone.1 r.0 r.1
+    ∙ (ap (λ b. cond b None (row_of (without_rows table removed) r.0 r.1)) (not_first (is_ref r gone) (has removed r) h) ∙ without_other removed table r (not_second (is_ref r gone) (has removed r) h))
 
 create_leaves : (table : TableMap) (schema : Schema) (given : Given) (m : ℕ) → IfMade table (create table schema given m)
 create_leaves table schema given m = if_made table (eqb (next_of table m) 4294967295) why.IdsEnded (created_row table schema given m >>= at_row) (then_made table (created_row table schema given m) at_row (λ row. made_of table (new row) (left row)))
   where
     new : Row → Made
-    new row = record { table = put_next (put_row table m (next_of table m) row) m (next_of table m + 1); changed = (m, next_of table m) ∷ []; created = Some (next_of table m) }
+    new row = record { table = put_row (put_next table m (next_of table m + 1)) m (next_of table m) row; changed = (m, next_of table m) ∷ []; created = Some (next_of table m) }
 
     at_row : Row → Result Made Why
     at_row row = Ok (new row)
 
     left : (row : Row) → Leaves table (new row)
-    left row = record { row = λ r h. row_of_next (put_row table m (next_of table m) row) m (next_of table m + 1) r.0 r.1 ∙ put_other table m (next_of table m) row r (not_first (is_ref r (m, next_of table m)) false h) }
+    left row = record { row = λ r h. put_other (put_next table m (next_of table m + 1)) m (next_of table m) row r (not_first (is_ref r (m, next_of table m)) false h) ∙ row_of_next table m (next_of table m + 1) r.0 r.1 }
 
 update_leaves : (table : TableMap) (schema : Schema) (given : Given) (ref : Ref) → IfMade table (update table schema given ref)
 update_leaves table schema given ref = then_made table (updated_row table schema given ref) at_row (λ row. made_of table (new row) (left row))
@@ -122,11 +122,17 @@ Keeps schema table course r = (row_of course.table r.0 r.1 ≡ row_of table r.0 
 keeps_more : (schema : Schema) (table : TableMap) (course : Course) (r : Ref) (m : Made) → Leaves course.table m → Keeps schema table course r → Keeps schema table (after_change schema course m) r
 keeps_more schema table course r m leaves (inr t) =
     inr (record {
-      itself = has_left course.touched (touched_at_once course.table schema m) r t.itself;
-      parents = λ p h. has_left course.touched (touched_at_once course.table schema m) p (t.parents p h);
+      itself = here r (has_left course.touched (touched_at_once course.table schema m) r t.itself);
+      parents = λ p h. here p (has_left course.touched (touched_at_once course.table schema m) p (t.parents p h));
     })
+  where
+    here : (q : Ref) → has (course.touched ++ touched_at_once course.table schema m) q ≡ true → has (with_refs course.touched (touched_at_once course.table schema m)) q ≡ true
+    here q h = with_all_has course.touched (touched_at_once course.table schema m) q ∙ h
 keeps_more schema table course r m leaves (inl same) = by_test (has m.changed r) refl
   where
+    here : (q : Ref) → has (course.touched ++ touched_at_once course.table schema m) q ≡ true → has (with_refs course.touched (touched_at_once course.table schema m)) q ≡ true
+    here q h = with_all_has course.touched (touched_at_once course.table schema m) q ∙ h
+
     before : List Ref
     before = flat_map (touch_parents course.table schema) m.changed
 
@@ -137,11 +143,11 @@ keeps_more schema table course r m leaves (inl same) = by_test (has m.changed r)
     by_test false t = inl (leaves.row r t ∙ same)
     by_test true t =
         inr (record {
-          itself = has_right course.touched (m.changed ++ before ++ after) r (has_left (m.changed ++ before) after r (has_left m.changed before r t));
+          itself = here r (has_right course.touched (m.changed ++ before ++ after) r (has_left (m.changed ++ before) after r (has_left m.changed before r t)));
           parents = λ p h.
-              has_right course.touched (m.changed ++ before ++ after) p
+              here p (has_right course.touched (m.changed ++ before ++ after) p
               (has_left (m.changed ++ before) after p
-              (has_right m.changed before p (has_next (touch_parents course.table schema) m.changed r p t (subst (λ ps. has ps p ≡ true) (sym (touch_parents_same course.table table schema r same)) h))));
+              (has_right m.changed before p (has_next (touch_parents course.table schema) m.changed r p t (subst (λ ps. has ps p ≡ true) (sym (touch_parents_same course.table table schema r same)) h)))));
         })
 
 keeps_all : (schema : Schema) (table : TableMap) (r : Ref) (changes : List Change) (index : ℕ) (course last : Course) → all_made schema index course changes ≡ Ok last → Keeps schema table course r → Keeps schema table last r

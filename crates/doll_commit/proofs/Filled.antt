@@ -1,9 +1,8 @@
 -- A row with values given to it fits where it fitted before and the values have no fault.
-use Rattle.std.proofs.Common.{◌≡◌, ℕ, zero, suc, ◌+◌, ◌-◌, ◌<◌, Bool, true, false, cond, ◌&&◌, List, [], ◌∷◌, map, length, Option, Some, None, IsSome, is_some, reverse, eqb, bytes_eq, All, refl, sym, ◌∙◌, ap, subst, arith}
+use Rattle.std.proofs.Common.{◌≡◌, ℕ, zero, suc, ◌+◌, ◌-◌, ◌<◌, Bool, true, false, cond, List, [], ◌∷◌, map, length, Option, Some, None, IsSome, is_some, reverse, bytes_eq, All, refl, sym, ◌∙◌, ap, subst, arith}
 use Rattle.std.specs.Prelude.{slice_get, find}
 use Rattle.std.specs.List.{zip}
 use Rattle.std.specs.Option.{option_map, option_map_or, option_and_then}
-use Rattle.std.specs.FinMap as finite
 use Rattle.std.proofs.lemmas.Bool.{eq-eqb}
 use Rattle.std.proofs.lemmas.List.{length-map, length-reverse, get_or-reverse}
 use Rattle.std.proofs.lemmas.List.Elements.{All-nil, All-cons, All-head, All-tail}
@@ -12,21 +11,19 @@ use Rattle.std.proofs.lemmas.Slice.Zip.{length-zip}
 use Rattle.doll_schema.specs.declared.value.Value.{Value}
 use Rattle.doll_schema.specs.declared.value.Value.TheVariants as value
 use Rattle.doll_schema.specs.declared.value.Row.{Row}
-use Rattle.doll_schema.specs.declared.model.Kind.{Kind}
 use Rattle.doll_schema.specs.declared.model.Attribute.{Attribute}
 use Rattle.doll_schema.specs.declared.model.BelongsTo.{BelongsTo}
 use Rattle.doll_schema.specs.declared.model.Model.{Model}
 use Rattle.doll_schema.specs.declared.model.Schema.{Schema}
-use Rattle.doll_table.specs.Tables.{Extent, TableMap, row_of, next_of, put_row, put_next}
+use Rattle.doll_table.specs.Tables.{TableMap, row_of, next_of, put_row, put_next}
 use Rattle.doll_schema.specs.Lookups.{key_name}
 use Rattle.doll_schema.specs.Values.{has_kind}
 use Rattle.doll_table.specs.Fits.{Fits, RowFits}
-use Rattle.doll_table.proofs.Growing.{row_of_put, next_of_put, row_of_next, next_of_next, length_stays, fits_more, put_fits, next_fits}
+use Rattle.doll_table.proofs.Growing.{row_of_next, next_of_next, fits_more, put_fits, next_fits}
 use Rattle.doll_commit.specs.declared.fault.Why.{Why}
 use Rattle.doll_commit.specs.declared.fault.Why.TheVariants as why
 use Rattle.doll_commit.specs.Given.{Given, value_given, id_of_int, key_of, value_fault, attribute_fault, key_fault, first_fault, is_known, pair_fault, given_fault}
-use Rattle.doll_commit.specs.Rows.{blank_row, value_after, key_after, row_after}
-use Rattle.doll_commit.proofs.Alike.{same_table}
+use Rattle.doll_commit.specs.Rows.{value_after, key_after, row_after}
 
 -- where nothing is the first fault, nothing has one
 
@@ -140,68 +137,12 @@ row_after_fits table model given old free fits = record {
     key_at at b id k here was None e is = fits.parents at b id here (ap (option_and_then (λ j. j)) was ∙ is)
     key_at at b id k here was (Some u) e is = given_key table model given at b u id free here e is
 
--- a row of nils fits
-
-abbrev nil_value : Attribute → Value
-nil_value a = value.Nil
-
-abbrev no_key : BelongsTo → Option ℕ
-no_key b = None
-
-nil_at : (attributes : List Attribute) (at : ℕ) (v : Value) → slice_get (map nil_value attributes) at ≡ Some v → value.Nil ≡ v
-nil_at [] at v h = absurd (none-some v h)
-nil_at (a ∷ attributes) zero v h = same_Some value.Nil v h
-nil_at (a ∷ attributes) (suc at) v h = nil_at attributes at v h
-
-no_key_at : (associations : List BelongsTo) (at id : ℕ) → option_and_then (λ k. k) (slice_get (map no_key associations) at) ≡ Some id → ⊥
-no_key_at [] at id h = none-some id h
-no_key_at (b ∷ associations) zero id h = none-some id h
-no_key_at (b ∷ associations) (suc at) id h = no_key_at associations at id h
-
-has_nil : (k : Kind) → has_kind k value.Nil ≡ true
-has_nil k = refl
-
-pub blank_fits : (table : TableMap) (model : Model) → RowFits table model (blank_row model)
-blank_fits table model = record {
-  as_many_values = length-map model.attributes nil_value;
-  kinds = λ at a v here is. ap (has_kind a.kind) (sym (nil_at model.attributes at v is)) ∙ has_nil a.kind;
-  as_many_parents = length-map model.belongs_to no_key;
-  parents = λ at b id here is. absurd (no_key_at model.belongs_to at id is);
-}
-
 -- a table with a row under its next id
 
-put_then_next : (table : TableMap) (m id n : ℕ) (row : Row) → m < length table.extents → put_row (put_next table m n) m id row ≡ put_next (put_row table m id row) m n
-put_then_next table m id n row l =
-    same_table (put_row (put_next table m n) m id row) (put_next (put_row table m id row) m n) refl (stay1 ∙ sym stay2)
-    (λ k i. row_of_put (put_next table m n) m id row within1 k i
-    ∙ (ap (λ o. cond (eqb k m && eqb i id) (Some row) o) (row_of_next table m n k i) ∙ sym (row_of_next (put_row table m id row) m n k i ∙ row_of_put table m id row l k i)))
-    (λ k. next_of_put (put_next table m n) m id row k
-    ∙ (next_of_next table m n l k ∙ sym (next_of_next (put_row table m id row) m n within2 k ∙ ap (λ o. cond (eqb k m) n o) (next_of_put table m id row k))))
-  where
-    set_next : Extent → Extent
-    set_next x = record x { next = n }
-
-    with_row : Extent → Extent
-    with_row x = record x { rows = finite.insert x.rows id row }
-
-    within1 : m < length (put_next table m n).extents
-    within1 = omega (arith, length_stays table m (λ (x : Extent). record x { next = n }))
-
-    within2 : m < length (put_row table m id row).extents
-    within2 = omega (arith, length_stays table m (λ (x : Extent). record x { rows = finite.insert x.rows id row }))
-
-    stay1 : length (put_row (put_next table m n) m id row).extents ≡ length table.extents
-    stay1 = length_stays (put_next table m n) m (λ (x : Extent). record x { rows = finite.insert x.rows id row }) ∙ length_stays table m (λ (x : Extent). record x { next = n })
-
-    stay2 : length (put_next (put_row table m id row) m n).extents ≡ length table.extents
-    stay2 = length_stays (put_row table m id row) m (λ (x : Extent). record x { next = n }) ∙ length_stays table m (λ (x : Extent). record x { rows = finite.insert x.rows id row })
-
-pub create_fits : (schema : Schema) (table : TableMap) (m : ℕ) (model : Model) (row : Row) → Fits schema table → slice_get schema.models m ≡ Some model → RowFits table model row → Fits schema (put_next (put_row table m (next_of table m) row) m (next_of table m + 1))
+pub create_fits : (schema : Schema) (table : TableMap) (m : ℕ) (model : Model) (row : Row) → Fits schema table → slice_get schema.models m ≡ Some model → RowFits table model row → Fits schema (put_row (put_next table m (next_of table m + 1)) m (next_of table m) row)
 create_fits schema table m model row fits here suits =
-    subst (λ t. Fits schema t) (put_then_next table m (next_of table m) (next_of table m + 1) row within)
-    (put_fits schema raised m (next_of table m) model row (next_fits schema table m (next_of table m + 1) fits (slice_get_within schema.models m model here) (omega arith)) here (fits.nexts m within) below
-    (fits_more table raised model row (λ b i lives. ap is_some (row_of_next table m (next_of table m + 1) b i) ∙ lives) suits))
+    put_fits schema raised m (next_of table m) model row (next_fits schema table m (next_of table m + 1) fits (slice_get_within schema.models m model here) (omega arith)) here (fits.nexts m within) below
+    (fits_more table raised model row (λ b i lives. ap is_some (row_of_next table m (next_of table m + 1) b i) ∙ lives) suits)
   where
     raised : TableMap
     raised = put_next table m (next_of table m + 1)

@@ -1,13 +1,11 @@
-pub mod Alike
 pub mod Closures
+pub mod Commits
 pub mod Courses
 pub mod Filled
-pub mod Finished
 pub mod Gone
 pub mod Making
 pub mod Members
 pub mod Moments
-pub mod Ordered
 pub mod Pairs
 pub mod Pushes
 pub mod Removing

@@ -17,68 +17,37 @@ use Rattle.doll_schema.specs.declared.model.Schema.{Schema}
 use Rattle.doll_table.specs.Tables.{Extent, TableMap, row_of, rows_in, next_of, parent_of, names_parent, ids_under, without_row}
 use Rattle.doll_table.specs.Fits.{Fits, RowFits}
 use Rattle.doll_table.proofs.Growing.{row_of_without, next_of_without, length_stays}
-use Rattle.doll_commit.specs.Refs.{Ref, is_ref, has, SameRefs}
+use Rattle.doll_commit.specs.Refs.{Ref, is_ref, has}
 use Rattle.doll_commit.specs.Removed.{naming_by, naming, is_restricted, without_rows}
-use Rattle.doll_commit.proofs.Alike.{same_table}
-use Rattle.doll_commit.proofs.Closures.{same_bool, is_ref-true, is_ref_itself, has_left, has_right, Within}
+use Rattle.doll_commit.proofs.Closures.{is_ref-true, is_ref_itself, has_left, has_right}
 
 -- the rows of a table without some
 
-joined : (a b : Bool) (o : Option Row) → cond b None (cond a None o) ≡ cond (a || b) None o
-joined true true o = refl
-joined true false o = refl
+joined : (a b : Bool) (o : Option Row) → cond a None (cond b None o) ≡ cond (a || b) None o
+joined true b o = refl
 joined false b o = refl
 
 pub row_of_without_rows : (table : TableMap) (refs : List Ref) (m i : ℕ) → row_of (without_rows table refs) m i ≡ cond (has refs (m, i)) None (row_of table m i)
 row_of_without_rows table [] m i = refl
 row_of_without_rows table (r ∷ rs) m i =
-    row_of_without_rows (without_row table r.0 r.1) rs m i ∙ (ap (λ o. cond (has rs (m, i)) None o) (row_of_without table r.0 r.1 m i) ∙ joined (is_ref (m, i) r) (has rs (m, i)) (row_of table m i))
+    row_of_without (without_rows table rs) r.0 r.1 m i ∙ (ap (λ o. cond (is_ref (m, i) r) None o) (row_of_without_rows table rs m i) ∙ joined (is_ref (m, i) r) (has rs (m, i)) (row_of table m i))
 
 pub next_of_without_rows : (table : TableMap) (refs : List Ref) (m : ℕ) → next_of (without_rows table refs) m ≡ next_of table m
 next_of_without_rows table [] m = refl
-next_of_without_rows table (r ∷ rs) m = next_of_without_rows (without_row table r.0 r.1) rs m ∙ next_of_without table r.0 r.1 m
+next_of_without_rows table (r ∷ rs) m = next_of_without (without_rows table rs) r.0 r.1 m ∙ next_of_without_rows table rs m
 
 length_without_rows : (table : TableMap) (refs : List Ref) → length (without_rows table refs).extents ≡ length table.extents
 length_without_rows table [] = refl
-length_without_rows table (r ∷ rs) = length_without_rows (without_row table r.0 r.1) rs ∙ length_stays table r.0 (λ (x : Extent). record x { rows = finite.remove x.rows r.1 })
+length_without_rows table (r ∷ rs) = length_stays (without_rows table rs) r.0 (λ (x : Extent). record x { rows = finite.remove x.rows r.1 }) ∙ length_without_rows table rs
 
 schema_without_rows : (table : TableMap) (refs : List Ref) → (without_rows table refs).schema ≡ table.schema
 schema_without_rows table [] = refl
-schema_without_rows table (r ∷ rs) = schema_without_rows (without_row table r.0 r.1) rs
-
--- without the same records it is the same table
-pub same_without : (table : TableMap) (xs ys : List Ref) → SameRefs xs ys → without_rows table xs ≡ without_rows table ys
-same_without table xs ys same =
-    same_table (without_rows table xs) (without_rows table ys) (schema_without_rows table xs ∙ sym (schema_without_rows table ys)) (length_without_rows table xs ∙ sym (length_without_rows table ys))
-    (λ m i. row_of_without_rows table xs m i ∙ (ap (λ b. cond b None (row_of table m i)) (same (m, i)) ∙ sym (row_of_without_rows table ys m i))) (λ m. next_of_without_rows table xs m ∙ sym (next_of_without_rows table ys m))
-
--- the records behind one are taken away before it
-
-taken_after : (a b : Bool) (o : Option Row) → cond a None (cond b None o) ≡ cond (a || b) None o
-taken_after true b o = refl
-taken_after false b o = refl
-
-without_last : (table : TableMap) (r : Ref) (rs : List Ref) → without_row (without_rows table rs) r.0 r.1 ≡ without_rows table (r ∷ rs)
-without_last table r rs =
-    let behind = without_rows table rs in
-    same_table (without_row behind r.0 r.1) (without_rows table (r ∷ rs)) (schema_without_rows table rs ∙ sym (schema_without_rows table (r ∷ rs)))
-    (length_stays behind r.0 (λ (x : Extent). record x { rows = finite.remove x.rows r.1 }) ∙ (length_without_rows table rs ∙ sym (length_without_rows table (r ∷ rs))))
-    (λ m i. row_of_without behind r.0 r.1 m i ∙ (ap (λ o. cond (is_ref (m, i) r) None o) (row_of_without_rows table rs m i) ∙ (taken_after (is_ref (m, i) r) (has rs (m, i)) (row_of table m i) ∙ sym (row_of_without_rows table (r ∷ rs) m i))))
-    (λ m. next_of_without behind r.0 r.1 m ∙ (next_of_without_rows table rs m ∙ sym (next_of_without_rows table (r ∷ rs) m)))
+schema_without_rows table (r ∷ rs) = schema_without_rows table rs
 
 pub without_at : (table : TableMap) (refs : List Ref) (at : ℕ) (d : Ref) → at < length refs → without_row (without_rows table (drop (at + 1) refs)) (get_or refs at d).0 (get_or refs at d).1 ≡ without_rows table (drop at refs)
-without_at table refs at d l = without_last table (get_or refs at d) (drop (at + 1) refs) ∙ ap (without_rows table) (sym (drop_more refs at d l))
+without_at table refs at d l = ap (without_rows table) (sym (drop_more refs at d l))
 
--- tests over lists with the same records
-
-pub any_member : (test : Ref → Bool) (xs : List Ref) → list_any test xs ≡ true → (x : Ref) × (has xs x ≡ true) × (test x ≡ true)
-any_member test [] h = absurd (true≢false (sym h))
-any_member test (x ∷ xs) h = by_cases (any_member test xs) (or_cases (test x) (list_any test xs) h)
-  where
-    by_cases : (list_any test xs ≡ true → (y : Ref) × (has xs y ≡ true) × (test y ≡ true)) → (test x ≡ true) ⊎ (list_any test xs ≡ true) → (y : Ref) × (has (x ∷ xs) y ≡ true) × (test y ≡ true)
-    by_cases behind (inl t) = (x, or_left (is_ref x x) (has xs x) (is_ref_itself x), t)
-    by_cases behind (inr t) = let found = behind t in (found.0, or_right (is_ref found.0 x) (has xs found.0) found.1, found.2)
-
+-- a record that passes a test
 pub member_any : (test : Ref → Bool) (xs : List Ref) (x : Ref) → has xs x ≡ true → test x ≡ true → list_any test xs ≡ true
 member_any test [] x h t = h
 member_any test (y ∷ xs) x h t = by_cases (λ u. member_any test xs x u t) (or_cases (is_ref x y) (has xs x) h)
@@ -86,23 +55,6 @@ member_any test (y ∷ xs) x h t = by_cases (λ u. member_any test xs x u t) (or
     by_cases : (has xs x ≡ true → list_any test xs ≡ true) → (is_ref x y ≡ true) ⊎ (has xs x ≡ true) → list_any test (y ∷ xs) ≡ true
     by_cases behind (inl u) = or_left (test y) (list_any test xs) (ap test (sym (is_ref-true x y u)) ∙ t)
     by_cases behind (inr u) = or_right (test y) (list_any test xs) (behind u)
-
-any_within : (test : Ref → Bool) (xs ys : List Ref) → Within xs ys → list_any test xs ≡ true → list_any test ys ≡ true
-any_within test xs ys w h = let found = any_member test xs h in member_any test ys found.0 (w found.0 found.1) found.2
-
-any_same : (test : Ref → Bool) (xs ys : List Ref) → SameRefs xs ys → list_any test xs ≡ list_any test ys
-any_same test xs ys same = same_bool (list_any test xs) (list_any test ys) (any_within test xs ys (λ r h. sym (same r) ∙ h)) (any_within test ys xs (λ r h. same r ∙ h))
-
-any_congr : (f g : Ref → Bool) → ((r : Ref) → f r ≡ g r) → (xs : List Ref) → list_any f xs ≡ list_any g xs
-any_congr f g same [] = refl
-any_congr f g same (x ∷ xs) = ap (λ b. b || list_any f xs) (same x) ∙ ap (λ b. g x || b) (any_congr f g same xs)
-
--- the same records are restricted alike
-pub same_restricted : (table : TableMap) (schema : Schema) (xs ys : List Ref) → SameRefs xs ys → is_restricted table schema xs ≡ is_restricted table schema ys
-same_restricted table schema xs ys same =
-    any_same (λ gone. list_any (λ ref. not (has xs ref)) (naming table schema gone)) xs ys same
-    ∙ any_congr (λ gone. list_any (λ ref. not (has xs ref)) (naming table schema gone)) (λ gone. list_any (λ ref. not (has ys ref)) (naming table schema gone))
-    (λ gone. any_congr (λ ref. not (has xs ref)) (λ ref. not (has ys ref)) (λ ref. ap not (same ref)) (naming table schema gone)) ys
 
 -- a row that names a record is among those that name it
 

@@ -8,13 +8,12 @@ use Rattle.std.proofs.lemmas.Option.{slice_get_cases}
 use Rattle.doll_schema.specs.declared.value.Row.{Row}
 use Rattle.doll_schema.specs.declared.model.Model.{Model}
 use Rattle.doll_schema.specs.declared.model.Schema.{Schema}
-use Rattle.doll_table.specs.Tables.{Extent, TableMap, row_of, next_of, put_row}
+use Rattle.doll_table.specs.Tables.{Extent, TableMap, row_of, put_row}
 use Rattle.doll_table.specs.Fits.{Fits, RowFits}
 use Rattle.doll_table.proofs.Beyond.{row_beyond}
-use Rattle.doll_table.proofs.Growing.{row_of_put, next_of_put, length_stays, put_fits}
-use Rattle.doll_commit.specs.Refs.{Ref, is_ref, has, SameRefs}
+use Rattle.doll_table.proofs.Growing.{row_of_put, length_stays, put_fits}
+use Rattle.doll_commit.specs.Refs.{Ref, is_ref, has}
 use Rattle.doll_commit.specs.Commits.{row_touches, touch_parents, stamped_at, stamped}
-use Rattle.doll_commit.proofs.Alike.{same_table}
 use Rattle.doll_commit.proofs.Closures.{is_ref-true}
 
 -- a row with a moment
@@ -56,17 +55,6 @@ row_of_stamped moment table [] m i = refl
 row_of_stamped moment table (ref ∷ refs) m i =
     row_of_stamped moment (stamped_at moment table ref) refs m i
     ∙ (ap (moved moment (has refs (m, i))) (one_row moment table ref m i) ∙ moved_twice moment (is_ref (m, i) ref) (has refs (m, i)) (row_of table m i))
-
-one_next : (moment : ℕ) (table : TableMap) (ref : Ref) (m : ℕ) → next_of (stamped_at moment table ref) m ≡ next_of table m
-one_next moment table ref m = by_row (row_of table ref.0 ref.1)
-  where
-    by_row : (o : Option Row) → next_of (option_map_or (λ (row : Row). put_row table ref.0 ref.1 (with_moment moment row)) o table) m ≡ next_of table m
-    by_row None = refl
-    by_row (Some row) = next_of_put table ref.0 ref.1 (with_moment moment row) m
-
-pub next_of_stamped : (moment : ℕ) (table : TableMap) (refs : List Ref) (m : ℕ) → next_of (stamped moment table refs) m ≡ next_of table m
-next_of_stamped moment table [] m = refl
-next_of_stamped moment table (ref ∷ refs) m = next_of_stamped moment (stamped_at moment table ref) refs m ∙ one_next moment table ref m
 
 one_length : (moment : ℕ) (table : TableMap) (ref : Ref) → length (stamped_at moment table ref).extents ≡ length table.extents
 one_length moment table ref = by_row (row_of table ref.0 ref.1)
@@ -137,12 +125,6 @@ one_fits moment schema table ref fits = by_row (row_of table ref.0 ref.1) refl
 pub stamped_fits : (moment : ℕ) (schema : Schema) (table : TableMap) (refs : List Ref) → Fits schema table → Fits schema (stamped moment table refs)
 stamped_fits moment schema table [] fits = fits
 stamped_fits moment schema table (ref ∷ refs) fits = stamped_fits moment schema (stamped_at moment table ref) refs (one_fits moment schema table ref fits)
-
--- the same records leave the same table
-pub same_stamped : (moment : ℕ) (table : TableMap) (xs ys : List Ref) → SameRefs xs ys → stamped moment table xs ≡ stamped moment table ys
-same_stamped moment table xs ys same =
-    same_table (stamped moment table xs) (stamped moment table ys) (schema_stamped moment table xs ∙ sym (schema_stamped moment table ys)) (length_stamped moment table xs ∙ sym (length_stamped moment table ys))
-    (λ m i. row_of_stamped moment table xs m i ∙ (ap (λ b. moved moment b (row_of table m i)) (same (m, i)) ∙ sym (row_of_stamped moment table ys m i))) (λ m. next_of_stamped moment table xs m ∙ sym (next_of_stamped moment table ys m))
 
 -- a table that has an extent for each model keeps that
 pub whole_stamped : (moment : ℕ) (table after : TableMap) (refs : List Ref) → length table.extents ≡ length table.schema.models → after ≡ stamped moment table refs → length after.extents ≡ length after.schema.models

@@ -1,22 +1,25 @@
--- A walk over records, step by step, to the closure.
-use Rattle.std.proofs.Common.{◌≡◌, ℕ, ◌+◌, ◌<◌, ◌≤◌, Bool, true, false, cond, List, [], ◌∷◌, ◌++◌, length, take, None, Some, IsSome, Option, refl, sym, ◌∙◌, ap, subst, arith, ◌⊎◌, inl, inr}
+-- A walk over records, one after another, comes to the closure, which goes level by level.
+use Rattle.std.proofs.Common.{◌≡◌, ℕ, zero, suc, ◌+◌, ◌-◌, ◌<◌, ◌≤◌, Bool, true, false, cond, List, [], ◌∷◌, ◌++◌, length, get_or, take, drop, None, Some, IsSome, Option, refl, sym, ◌∙◌, ap, arith, inl, inr}
 use Rattle.std.specs.Prelude.{slice_get}
-use Rattle.std.specs.List.{IsDistinct}
+use Rattle.std.specs.Fn.{iterate}
+use Rattle.std.specs.List.{flat_map}
 use Rattle.std.specs.Option.{option_map_or}
-use Rattle.std.proofs.lemmas.List.{take_more, take_all, take-append-le, length_push}
+use Rattle.std.proofs.lemmas.Bool.{cases_lt, or_left, or_right}
+use Rattle.std.proofs.lemmas.List.{take_all, take-append-le, take-append-drop, length_push, get_or_append_left}
+use Rattle.std.proofs.lemmas.List.Concat.{flat_map-append}
 use Rattle.std.proofs.lemmas.Option.{slice_get_cases, slice_get_within, get_or_from_slice_get}
-use Rattle.std.proofs.lemmas.Map.Made.{length-le_from_is_member}
 use Rattle.doll_schema.specs.declared.value.Row.{Row}
 use Rattle.doll_schema.specs.declared.model.Model.{Model}
 use Rattle.doll_schema.specs.declared.model.Schema.{Schema}
 use Rattle.doll_table.specs.Tables.{TableMap, row_of}
 use Rattle.doll_commit.specs.declared.walk.Step.{Step}
 use Rattle.doll_commit.specs.declared.walk.Step.TheVariants as step
-use Rattle.doll_commit.specs.Refs.{Ref, is_ref, has, with_refs, SameRefs, closure}
+use Rattle.doll_commit.specs.Refs.{Ref, is_ref, has, with_refs, count_of, with_next, closure}
 use Rattle.doll_commit.specs.Commits.{row_touches, touch_parents}
 use Rattle.doll_commit.specs.Walk.{next_of}
-use Rattle.doll_commit.proofs.Closures.{Within, IsClosed, LivesBetween, same_bool, is_ref_equiv, has_left, has_right, has_cases, has_one, has_at, with_all_has, closure_begins, closure_within, closure_closed}
+use Rattle.doll_commit.proofs.Closures.{Within, LivesBetween, is_ref_itself, has_right, from_next, with_all_has, closure_closed}
 use Rattle.doll_commit.proofs.Gone.{dependents_live}
+use Rattle.doll_commit.proofs.Pushes.{with_refs_append, pushed_more}
 
 -- only living records have touch parents
 parents_of_living : (table : TableMap) (schema : Schema) (r p : Ref) → has (touch_parents table schema r) p ≡ true → IsSome (row_of table r.0 r.1)
@@ -35,19 +38,16 @@ pub lives_between : (way : Step) (table : TableMap) (schema : Schema) → LivesB
 lives_between step.Dependents table schema q r p h k = dependents_live table schema q r h
 lives_between step.TouchParents table schema q r p h k = parents_of_living table schema r p k
 
--- on the way from some records: the steps from the first so many are made
-pub record IsOnWay (next : Ref → List Ref) (table : TableMap) (seeds all : List Ref) (at : ℕ) : Type 0 where
-  pub begins : Within seeds all
-  pub reached : Within all (closure next table seeds)
-  pub made : (r p : Ref) → has (take at all) r ≡ true → has (next r) p ≡ true → has all p ≡ true
-
-pub way_begins : (next : Ref → List Ref) (table : TableMap) (seeds : List Ref) → IsOnWay next table seeds seeds 0
-way_begins next table seeds = record { begins = λ r h. h; reached = closure_begins next table seeds; made = λ r p h k. absurd (cc h) }
-
-within_all : (xs ys : List Ref) (r : Ref) → has xs r ≡ true → has (with_refs xs ys) r ≡ true
-within_all xs ys r h = with_all_has xs ys r ∙ has_left xs ys r h
-
 -- what is added stands behind
+
+no_shorter : (xs ys : List Ref) → length xs ≤ length (with_refs xs ys)
+no_shorter xs [] = omega arith
+no_shorter xs (y ∷ ys) = by_test (has xs y) (no_shorter xs ys) (no_shorter (xs ++ y ∷ []) ys)
+  where
+    by_test : (b : Bool) → length xs ≤ length (with_refs xs ys) → length (xs ++ y ∷ []) ≤ length (with_refs (xs ++ y ∷ []) ys) → length xs ≤ length (with_refs (cond b xs (xs ++ y ∷ [])) ys)
+    by_test true l m = l
+    by_test false l m = omega (arith, m, length_push xs y)
+
 front_stays : (n : ℕ) (xs ys : List Ref) → n ≤ length xs → take n (with_refs xs ys) ≡ take n xs
 front_stays n xs [] l = refl
 front_stays n xs (y ∷ ys) l = by_test (has xs y) (front_stays n xs ys l) (λ m. front_stays n (xs ++ y ∷ []) ys m)
@@ -56,41 +56,130 @@ front_stays n xs (y ∷ ys) l = by_test (has xs y) (front_stays n xs ys l) (λ m
     by_test true here there = here
     by_test false here there = there (omega (arith, length_push xs y)) ∙ take-append-le n xs (y ∷ []) l
 
-module _ (next : Ref → List Ref) (table : TableMap) (between : LivesBetween next table) (seeds all : List Ref) (at : ℕ) where
-  pub way_goes_on : (x : Ref) → slice_get all at ≡ Some x → IsOnWay next table seeds all at → IsOnWay next table seeds (with_refs all (next x)) (at + 1)
-  way_goes_on x here way = record {
-    begins = λ r h. within_all all (next x) r (way.begins r h);
-    reached = λ r h. by_list r (has_cases all (next x) r (sym (with_all_has all (next x) r) ∙ h));
-    made = λ r p h k. made_more r p (has_cases (take at all) (x ∷ []) r (ap (λ ys. has ys r) (sym front) ∙ h)) k;
-  }
-    where
-      within : at < length all
-      within = slice_get_within all at x here
+at_stays : (xs ys : List Ref) (k : ℕ) (d : Ref) → k < length xs → get_or (with_refs xs ys) k d ≡ get_or xs k d
+at_stays xs [] k d l = refl
+at_stays xs (y ∷ ys) k d l = by_test (has xs y) (at_stays xs ys k d l) (λ m. at_stays (xs ++ y ∷ []) ys k d m)
+  where
+    by_test : (b : Bool) → get_or (with_refs xs ys) k d ≡ get_or xs k d → (k < length (xs ++ y ∷ []) → get_or (with_refs (xs ++ y ∷ []) ys) k d ≡ get_or (xs ++ y ∷ []) k d) → get_or (with_refs (cond b xs (xs ++ y ∷ [])) ys) k d ≡ get_or xs k d
+    by_test true here there = here
+    by_test false here there = there (omega (arith, length_push xs y)) ∙ get_or_append_left xs (y ∷ []) d k l
 
-      front : take (at + 1) (with_refs all (next x)) ≡ take at all ++ x ∷ []
-      front = front_stays (at + 1) all (next x) (omega (arith, within)) ∙ (take_more all at x within ∙ ap (λ y. take at all ++ y ∷ []) (get_or_from_slice_get all at x x here))
+-- records that are there already add none
+adds_none : (xs ys : List Ref) → Within ys xs → with_refs xs ys ≡ xs
+adds_none xs [] w = refl
+adds_none xs (y ∷ ys) w = ap (λ b. with_refs (cond b xs (xs ++ y ∷ [])) ys) (w y (or_left (is_ref y y) (has ys y) (is_ref_itself y))) ∙ adds_none xs ys (λ r h. w r (or_right (is_ref r y) (has ys r) h))
 
-      has_x : has all x ≡ true
-      has_x = subst (λ y. has all y ≡ true) (get_or_from_slice_get all at x x here) (has_at all at x within)
+-- what was added none was there already
+same_length : (xs ys : List Ref) → length (with_refs xs ys) ≤ length xs → with_refs xs ys ≡ xs
+same_length xs ys l = sym (take_all (length xs) (with_refs xs ys) l) ∙ (front_stays (length xs) xs ys (omega arith) ∙ take_all (length xs) xs (omega arith))
 
-      by_list : (r : Ref) → (has all r ≡ true) ⊎ (has (next x) r ≡ true) → has (closure next table seeds) r ≡ true
-      by_list r (inl h) = way.reached r h
-      by_list r (inr h) = (closure_closed next table between seeds).under x r (way.reached x has_x) h
+-- levels
 
-      made_more : (r p : Ref) → (has (take at all) r ≡ true) ⊎ (has (x ∷ []) r ≡ true) → has (next r) p ≡ true → has (with_refs all (next x)) p ≡ true
-      made_more r p (inl h) k = within_all all (next x) p (way.made r p h k)
-      made_more r p (inr h) k = with_all_has all (next x) p ∙ has_right all (next x) p (subst (λ y. has (next y) p ≡ true) (sym (has_one x r h)) k)
+module _ {X : Type 0} (f : X → X) where
+  iterate_more : (n : ℕ) (x : X) → iterate f (suc n) x ≡ f (iterate f n x)
+  iterate_more zero x = refl
+  iterate_more (suc n) x = iterate_more n (f x)
 
-  past : slice_get all at ≡ None → length all ≤ at
-  past none = elim (slice_get_cases all at).1 [ inl w ↦ absurd (let some = w.2 in cc) | inr w ↦ w.0 ]
+  iterate_on : (n m k : ℕ) (x : X) → k ≡ n + m → iterate f k x ≡ iterate f m (iterate f n x)
+  iterate_on zero m k x e = let same : k ≡ m = omega arith in ap (λ j. iterate f j x) same
+  iterate_on (suc n) m k x e = let same : k ≡ suc (n + m) = omega arith in ap (λ j. iterate f j x) same ∙ iterate_on n m (n + m) (f x) refl
 
-  -- a walk past the last record has the closure
-  pub way_ends : slice_get all at ≡ None → IsOnWay next table seeds all at → SameRefs all (closure next table seeds)
-  way_ends none way r = same_bool (has all r) (has (closure next table seeds) r) (way.reached r) (closure_within next table seeds all way.begins closed r)
-    where
-      closed : IsClosed next all
-      closed = record { under = λ q p h k. way.made q p (ap (λ ys. has ys q) (take_all at all (past none)) ∙ h) k }
+  stands : (n : ℕ) (x : X) → f x ≡ x → iterate f n x ≡ x
+  stands zero x e = refl
+  stands (suc n) x e = ap (iterate f n) e ∙ stands n x e
 
-  -- and is no longer than it
-  pub way_is_short : IsDistinct is_ref all → IsOnWay next table seeds all at → length all ≤ length (closure next table seeds)
-  way_is_short apart way = length-le_from_is_member is_ref_equiv all (closure next table seeds) apart way.reached
+  -- from a level that stands on all are the same
+  same_level : (x : X) (a b : ℕ) → f (iterate f a x) ≡ iterate f a x → f (iterate f b x) ≡ iterate f b x → iterate f a x ≡ iterate f b x
+  same_level x a b p q = elim (cases_lt a b) [
+    | inl l ↦ sym (iterate_on a (b - a) b x (omega arith) ∙ stands (b - a) (iterate f a x) p)
+    | inr l ↦ iterate_on b (a - b) a x (omega arith) ∙ stands (a - b) (iterate f b x) q
+  ]
+
+module _ (next : Ref → List Ref) (table : TableMap) (between : LivesBetween next table) (seeds : List Ref) where
+  abbrev level : ℕ → List Ref
+  level n = iterate (with_next next) n seeds
+
+  abbrev last : ℕ
+  last = count_of table.extents + 1
+
+  last_stands : with_next next (level last) ≡ level last
+  last_stands = adds_none (level last) (flat_map next (level last)) (λ p h. let from = from_next next (level last) p h in (closure_closed next table between seeds).under from.0 p from.1 from.2)
+
+  longer : (n : ℕ) (xs : List Ref) → length xs ≤ length (iterate (with_next next) n xs)
+  longer zero xs = omega arith
+  longer (suc n) xs = omega (arith, no_shorter xs (flat_map next xs), longer n (with_next next xs))
+
+  level_is_short : (n : ℕ) → length (level n) ≤ length (closure next table seeds)
+  level_is_short n = elim (cases_lt n last) [
+    | inl l ↦ omega (arith, ap length (iterate_on (with_next next) n (last - n) last seeds (omega arith)), longer (last - n) (level n))
+    | inr l ↦ omega (arith, ap length (iterate_on (with_next next) last (n - last) n seeds (omega arith) ∙ stands (with_next next) (n - last) (level last) last_stands))
+  ]
+
+  -- on the way: the records so far are those of a level, and those that steps lead to from the first so many of it
+  pub record IsOnWay (all : List Ref) (at : ℕ) : Type 0 where
+    pub number : ℕ
+    pub within : at ≤ length (level number)
+    pub is : all ≡ with_refs (level number) (flat_map next (take at (level number)))
+
+  pub way_begins : IsOnWay seeds 0
+  way_begins = record { number = 0; within = omega arith; is = refl }
+
+  module _ (all : List Ref) (at : ℕ) where
+    -- at the end of a level, the next one is whole
+    whole : (n : ℕ) → at ≡ length (level n) → all ≡ with_refs (level n) (flat_map next (take at (level n))) → all ≡ with_next next (level n)
+    whole n e is = is ∙ ap (λ xs. with_refs (level n) (flat_map next xs)) (take_all at (level n) (omega arith))
+
+    lifted : (n : ℕ) → at ≡ length (level n) → all ≡ with_refs (level n) (flat_map next (take at (level n))) → all ≡ with_refs (level (suc n)) (flat_map next (take at (level (suc n))))
+    lifted n e is = whole n e is ∙ (sym up ∙ sym (ap (λ xs. with_refs (level (suc n)) (flat_map next xs)) first ∙ adds_none (level (suc n)) (flat_map next (level n)) there))
+      where
+        up : level (suc n) ≡ with_next next (level n)
+        up = iterate_more (with_next next) n seeds
+
+        first : take at (level (suc n)) ≡ level n
+        first = ap (take at) up ∙ (front_stays at (level n) (flat_map next (level n)) (omega arith) ∙ take_all at (level n) (omega arith))
+
+        there : Within (flat_map next (level n)) (level (suc n))
+        there r h = ap (λ xs. has xs r) up ∙ (with_all_has (level n) (flat_map next (level n)) r ∙ has_right (level n) (flat_map next (level n)) r h)
+
+    inside : (x : Ref) → slice_get all at ≡ Some x → (n : ℕ) → at < length (level n) → all ≡ with_refs (level n) (flat_map next (take at (level n))) → IsOnWay (with_refs all (next x)) (at + 1)
+    inside x here n l is = record {
+      number = n;
+      within = omega arith;
+      is = pushed_more next (level n) all (with_refs all (next x)) (level n) at x l (sym (at_stays (level n) (flat_map next (take at (level n))) at x l) ∙ (ap (λ xs. get_or xs at x) (sym is) ∙ get_or_from_slice_get all at x x here)) is refl;
+    }
+
+    pub way_goes_on : (x : Ref) → slice_get all at ≡ Some x → IsOnWay all at → IsOnWay (with_refs all (next x)) (at + 1)
+    way_goes_on x here way = elim (cases_lt at (length (level way.number))) [
+      | inl l ↦ inside x here way.number l way.is
+      | inr l ↦ (let end : at ≡ length (level way.number) = omega (arith, l, way.within) in
+          let up : level (suc way.number) ≡ with_next next (level way.number) = iterate_more (with_next next) way.number seeds in
+          inside x here (suc way.number) (omega (arith, slice_get_within all at x here, ap length (whole way.number end way.is), ap length up)) (lifted way.number end way.is))
+    ]
+
+    past : slice_get all at ≡ None → length all ≤ at
+    past none = elim (slice_get_cases all at).1 [ inl w ↦ absurd (let some = w.2 in cc) | inr w ↦ w.0 ]
+
+    -- a walk past the last record has come to the closure
+    pub way_ends : slice_get all at ≡ None → IsOnWay all at → all ≡ closure next table seeds
+    way_ends none way = same ∙ same_level (with_next next) seeds way.number last (sym (whole way.number end way.is) ∙ same) last_stands
+      where
+        few : length all ≤ length (level way.number)
+        few = omega (arith, past none, way.within)
+
+        end : at ≡ length (level way.number)
+        end = omega (arith, past none, way.within, ap length way.is, no_shorter (level way.number) (flat_map next (take at (level way.number))))
+
+        same : all ≡ level way.number
+        same = way.is ∙ same_length (level way.number) (flat_map next (take at (level way.number))) (omega (arith, few, ap length way.is))
+
+    -- and is no longer than it
+    pub way_is_short : IsOnWay all at → length all ≤ length (closure next table seeds)
+    way_is_short way = omega (arith, ap length way.is, ap length rest, no_shorter first (flat_map next (drop at (level way.number))), level_is_short (suc way.number), ap length (iterate_more (with_next next) way.number seeds))
+      where
+        first : List Ref
+        first = with_refs (level way.number) (flat_map next (take at (level way.number)))
+
+        rest : with_next next (level way.number) ≡ with_refs first (flat_map next (drop at (level way.number)))
+        rest =
+            ap (λ xs. with_refs (level way.number) (flat_map next xs)) (sym (take-append-drop at (level way.number)))
+            ∙ (ap (with_refs (level way.number)) (flat_map-append next (take at (level way.number)) (drop at (level way.number))) ∙ with_refs_append (level way.number) (flat_map next (take at (level way.number))) (flat_map next (drop at (level way.number))))

@@ -56,7 +56,7 @@ create table schema given m =
     let id = next_of table m in
     if id == 4294967295 then Err why.IdsEnded
     else created_row table schema given m >>= λ row.
-    Ok (record { table = put_next (put_row table m id row) m (id + 1); changed = (m, id) ∷ []; created = Some id })
+    Ok (record { table = put_row (put_next table m (id + 1)) m id row; changed = (m, id) ∷ []; created = Some id })
 
 -- an update sets the values given and leaves the others
 abbrev pub update : TableMap → Schema → Given → Ref → Result Made Why

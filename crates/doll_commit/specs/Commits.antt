@@ -16,7 +16,7 @@ use Rattle.doll_commit.specs.declared.fault.Why.TheVariants as why
 use Rattle.doll_commit.specs.declared.fault.CommitFault.{CommitFault}
 use Rattle.doll_commit.specs.declared.fault.CommitFault.TheVariants as fault
 use Rattle.doll_commit.specs.declared.apply.Applied.{Applied}
-use Rattle.doll_commit.specs.Refs.{Ref, closure}
+use Rattle.doll_commit.specs.Refs.{Ref, with_refs, closure}
 use Rattle.doll_commit.specs.Changes.{Made, made}
 
 -- the parent that a row has under an association that touches
@@ -34,8 +34,8 @@ touch_parents table schema ref = option_map_or (λ (m : Model). option_map_or (r
 abbrev pub touched_at_once : TableMap → Schema → Made → List Ref
 touched_at_once before schema made = made.changed ++ flat_map (touch_parents before schema) made.changed ++ flat_map (touch_parents made.table schema) made.changed
 
--- What changes made in order come to: the table after them, the records that they touched at once, and the ids that they
--- created, in the order of the creations.
+-- What changes made in order come to: the table after them, the records that they touched at once, each once, and the ids
+-- that they created, both in order.
 pub record Course : Type 0 where
   pub table : TableMap
   pub touched : List Ref
@@ -49,7 +49,7 @@ start table = record { table = table; touched = []; ids = [] }
 abbrev pub after_change : Schema → Course → Made → Course
 after_change schema course made = record {
   table = made.table;
-  touched = course.touched ++ touched_at_once course.table schema made;
+  touched = with_refs course.touched (touched_at_once course.table schema made);
   ids = course.ids ++ option_to_list made.created;
 }
 

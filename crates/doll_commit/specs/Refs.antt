@@ -1,5 +1,5 @@
 -- Records, and sets of them that a step makes larger until it adds nothing (this project's own).
-use Rattle.std.specs.Prelude.{ℕ, ◌≡◌, ◌+◌, ◌==◌, Bool, ◌&&◌, List, [], ◌∷◌, ◌++◌, fold, length, if◌then◌else◌}
+use Rattle.std.specs.Prelude.{ℕ, ◌+◌, ◌==◌, Bool, ◌&&◌, List, [], ◌∷◌, ◌++◌, fold, length, if◌then◌else◌}
 use Rattle.std.specs.List.{list_any, flat_map}
 use Rattle.std.specs.Fn.{iterate}
 use Rattle.std.specs.FinMap as finite
@@ -24,10 +24,6 @@ with_ref refs ref = if has refs ref then refs else refs ++ ref ∷ []
 abbrev pub with_refs : List Ref → List Ref → List Ref
 with_refs = fold with_ref
 
--- two lists have the same records
-abbrev pub SameRefs : List Ref → List Ref → Type 0
-SameRefs a b = (ref : Ref) → has a ref ≡ has b ref
-
 -- how many rows live
 abbrev pub count_of : List Extent → ℕ
 count_of [] = 0
@@ -35,7 +31,7 @@ count_of (extent ∷ extents) = length (finite.keys extent.rows) + count_of exte
 
 -- these records and those that a step leads to from them
 abbrev pub with_next : (Ref → List Ref) → List Ref → List Ref
-with_next next refs = refs ++ flat_map next refs
+with_next next refs = with_refs refs (flat_map next refs)
 
 -- the records that steps over living rows lead to: the step is made once more than there are rows, so that the last one
 -- adds none

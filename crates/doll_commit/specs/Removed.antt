@@ -1,5 +1,5 @@
 -- What goes with a record that is destroyed, and when it may not go (this project's own).
-use Rattle.std.specs.Prelude.{ℕ, ◌==◌, Bool, not, List, [], ◌∷◌, map, fold, slice_get, if◌then◌else◌}
+use Rattle.std.specs.Prelude.{ℕ, ◌==◌, Bool, not, List, [], ◌∷◌, map, slice_get, if◌then◌else◌}
 use Rattle.std.specs.List.{list_any, flat_map, enumerate_from}
 use Rattle.std.specs.Option.{option_map_or}
 use Rattle.doll_schema.specs.declared.model.BelongsTo.{BelongsTo}
@@ -35,4 +35,5 @@ is_restricted table schema removed = list_any (λ gone. list_any (λ ref. not (h
 
 -- the table without these records
 abbrev pub without_rows : TableMap → List Ref → TableMap
-without_rows = fold (λ table ref. without_row table ref.0 ref.1)
+without_rows table [] = table
+without_rows table (ref ∷ refs) = without_row (without_rows table refs) ref.0 ref.1

@@ -1,11 +1,11 @@
 //! A commit made on a table.
 
-ghost use Rattle.std.specs.Prelude.{◌≡◌, ◌≤◌, length, MatchResult, IfOk, OnOk};
-ghost use Rattle.doll_text.specs.Gives.{Gives};
+ghost use Rattle.std.specs.Prelude.{◌≡◌, ◌≤◌, length, IfOk, OnOk};
+ghost use Rattle.doll_text.specs.Gives.{Gives, GivesBy};
 ghost use Rattle.doll_table.specs.Fits.{Fits};
 ghost use Rattle.doll_commit.specs.Changes.{made};
 ghost use Rattle.doll_commit.specs.Commits.{start, or_refused, all_made, commit_of};
-ghost use Rattle.doll_commit.specs.Answers.{WentOn, ComesTo, IsRefused, seen};
+ghost use Rattle.doll_commit.specs.Answers.{next_course, Reaches, seen};
 ghost use Rattle.doll_commit.specs.Moments.{CarriesMoment};
 
 use crate::change::make_change;
@@ -84,7 +84,7 @@ fn made_course(
 ) -> Result<Course, CommitFault>
     requires fits { Fits schema.now table }
     requires few { length changes.now ≤ 1000 }
-    ensures exact { MatchResult result (λ course. ComesTo (all_made schema.now 0 (start table) changes.now) (seen course)) (IsRefused (all_made schema.now 0 (start table) changes.now)) }
+    ensures exact { GivesBy seen CommitFault.Memory (all_made schema.now 0 (start table) changes.now) result }
     ensures fits { IfOk result (λ course. Fits schema.now course.table) }
 {
     let mut course = Course {
@@ -105,7 +105,7 @@ fn make_all(
 ) -> Result<(), CommitFault>
     requires fits { Fits schema.now course.old.table }
     requires few { length changes.now ≤ 1000 }
-    ensures exact { MatchResult result (λ done. ComesTo (all_made schema.now 0 (seen course.old) changes.now) (seen course.new)) (IsRefused (all_made schema.now 0 (seen course.old) changes.now)) }
+    ensures exact { Reaches (all_made schema.now 0 (seen course.old) changes.now) (seen course.new) result }
     ensures fits { OnOk result (Fits schema.now course.new.table) }
 {
     for (index, change) in changes.iter().enumerate() {
@@ -123,7 +123,7 @@ fn make_one(
     change: &Change,
 ) -> Result<(), CommitFault>
     requires { Fits schema.now course.old.table }
-    ensures exact { MatchResult result (λ done. WentOn schema.now (seen course.old) (made course.old.table schema.now change.now) (seen course.new)) (IsRefused (or_refused index (made course.old.table schema.now change.now))) }
+    ensures exact { Reaches (or_refused index (next_course schema.now (seen course.old) (made course.old.table schema.now change.now))) (seen course.new) result }
     ensures fits { OnOk result (Fits schema.now course.new.table) }
 {
     match make_change(alloc, schema, course, change) {

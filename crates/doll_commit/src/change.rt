@@ -107,8 +107,8 @@ fn create(
     }
     let row = created_row(alloc, &course.table, schema, given, model)?;
     course.note(schema, (model, id))?;
-    course.table.put(model, id, row)?;
     course.table.set_next(model, id + 1);
+    course.table.put(model, id, row)?;
     course.note_parents(schema, (model, id))?;
     course.ids.push(id)?;
     Ok(())

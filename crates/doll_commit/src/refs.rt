@@ -65,7 +65,6 @@ impl Refs {
     pub fn get(&self, at: usize) -> Option<Ref>
         ensures value { result ≡ slice_get self.now at }
         ensures short { length self.now < 2 ^ 64 }
-        ensures apart { IsDistinct is_ref self.now }
     {
         self.list.get(at).copied()
     }

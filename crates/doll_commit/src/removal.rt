@@ -5,7 +5,7 @@ ghost use Rattle.std.specs.List.{list_any, flat_map, enumerate_from};
 ghost use Rattle.doll_schema.specs.declared.model.BelongsTo.{BelongsTo};
 ghost use Rattle.doll_schema.specs.declared.limits.TheConstants.{MOST_PARENTS};
 ghost use Rattle.doll_table.specs.Tables.{ids_under};
-ghost use Rattle.doll_commit.specs.Refs.{has, with_refs, SameRefs};
+ghost use Rattle.doll_commit.specs.Refs.{has, with_refs};
 ghost use Rattle.doll_commit.specs.Removed as spec;
 
 use crate::refs::{Ref, Refs};
@@ -22,7 +22,7 @@ pub fn removed_with(
     schema: &Schema,
     first: Ref,
 ) -> Result<Refs, Memory>
-    ensures { IfOk result (λ removed. SameRefs removed (spec.removed_with table.now schema.now first)) }
+    ensures { IfOk result (λ removed. removed ≡ spec.removed_with table.now schema.now first) }
 {
     let mut seeds = Refs::new(alloc);
     seeds.add(first)?;

@@ -3,7 +3,7 @@
 ghost use Rattle.std.specs.Prelude.{◌≡◌, [], length, IfOk, OnOk};
 ghost use Rattle.std.specs.List.{flat_map};
 ghost use Rattle.doll_table.specs.Fits.{Fits};
-ghost use Rattle.doll_commit.specs.Refs.{with_refs, SameRefs};
+ghost use Rattle.doll_commit.specs.Refs.{with_refs};
 ghost use Rattle.doll_commit.specs.Commits.{touched_by, row_touches, touch_parents, touched_set, stamped_at, stamped, finished};
 
 use crate::apply::Applied;

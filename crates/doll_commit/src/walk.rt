@@ -1,7 +1,7 @@
 //! A walk over records: from some to all that they lead to.
 
 ghost use Rattle.std.specs.Prelude.{◌≡◌, IfOk, OnOk};
-ghost use Rattle.doll_commit.specs.Refs.{with_refs, SameRefs, closure};
+ghost use Rattle.doll_commit.specs.Refs.{with_refs, closure};
 ghost use Rattle.doll_commit.specs.Walk.{next_of};
 
 use crate::refs::{Ref, Refs};
@@ -22,7 +22,7 @@ pub enum Step {
 
 /// The records, and all that steps lead to from them.
 pub fn reached(step: Step, table: &Table, schema: &Schema, seeds: Refs) -> Result<Refs, Memory>
-    ensures { IfOk result (λ all. SameRefs all (closure (next_of step table.now schema.now) table.now seeds)) }
+    ensures { IfOk result (λ all. all ≡ closure (next_of step table.now schema.now) table.now seeds) }
 {
     let mut all = seeds;
     let mut at = 0;

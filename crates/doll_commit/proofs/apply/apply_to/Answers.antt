@@ -1,7 +1,7 @@
 use Rattle.std.proofs.Common.{◌≤◌, length, arith}
 use Rattle.doll_commit.specs.Answers.{seen}
 use Rattle.doll_commit.proofs.Moments.{carries}
-use Rattle.doll_commit.proofs.Ordered.{commit_is}
+use Rattle.doll_commit.proofs.Commits.{commit_is}
 use Rattle.doll_commit.proofs.apply.apply_to.Goals as goal
 
 pub returns-clause-exact : goal.returns-clause-exact
