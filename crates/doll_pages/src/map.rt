@@ -42,7 +42,7 @@ impl<T> Model for PageMap<T> {
 /// A change of a slot among slots that stand in a slot.
 #[derive(Drop)]
 struct Below<E> {
-    at: u32,
+    at: usize,
     edit: E,
 }
 
@@ -80,16 +80,16 @@ impl<T: Copied> PageMap<T> {
     pub fn get(&self, id: u32) -> Option<&T>
         ensures { option_copied result ≡ finite.get self.now id }
     {
-        let Some(first) = self.root.get(id / FIRST) else {
+        let Some(first) = self.root.get((id / FIRST) as usize) else {
             return None;
         };
-        let Some(second) = first.get(id / SECOND % WIDTH) else {
+        let Some(second) = first.get((id / SECOND % WIDTH) as usize) else {
             return None;
         };
-        let Some(page) = second.get(id / WIDTH % WIDTH) else {
+        let Some(page) = second.get((id / WIDTH % WIDTH) as usize) else {
             return None;
         };
-        page.get(id % WIDTH)
+        page.get((id % WIDTH) as usize)
     }
 
     /// Changes what stands under a number. Copies of the map stay as they are. A refusal changes nothing.
@@ -98,18 +98,18 @@ impl<T: Copied> PageMap<T> {
         ensures err { OnErr result (self.new ≡ self.old) }
     {
         let edit = Below {
-            at: id % WIDTH,
+            at: (id % WIDTH) as usize,
             edit,
         };
         let edit = Below {
-            at: id / WIDTH % WIDTH,
+            at: (id / WIDTH % WIDTH) as usize,
             edit,
         };
         let edit = Below {
-            at: id / SECOND % WIDTH,
+            at: (id / SECOND % WIDTH) as usize,
             edit,
         };
-        self.root.edit(alloc, id / FIRST, edit)?;
+        self.root.edit(alloc, (id / FIRST) as usize, edit)?;
         Ok(())
     }
 }

@@ -38,10 +38,10 @@ impl<T: Copied> Slots<T> {
     }
 
     /// What stands in a slot.
-    pub fn get(&self, at: u32) -> Option<&T>
+    pub fn get(&self, at: usize) -> Option<&T>
         ensures { option_copied result ≡ slot self.now at }
     {
-        match self.slots.get(at as usize) {
+        match self.slots.get(at) {
             Some(slot) => slot.as_ref(),
             None => None,
         }
@@ -59,7 +59,7 @@ impl<T: Copied> Slots<T> {
     }
 
     /// Changes what stands in a slot. Slots that others have stay as they are. A refusal changes nothing.
-    pub fn edit<E: Edit<T>>(&mut self, alloc: Global, at: u32, edit: E) -> Result<(), Memory>
+    pub fn edit<E: Edit<T>>(&mut self, alloc: Global, at: usize, edit: E) -> Result<(), Memory>
         ensures ok { OnOk result (self.new ≡ edited self.old at (E.gives edit)) }
         ensures err { OnErr result (self.new ≡ self.old) }
     {
@@ -101,15 +101,18 @@ fn copy_slot<T: Copied>(alloc: Global, slot: &Option<T>) -> Result<Option<T>, Me
 fn edit_slot<T: Drop, E: Edit<T>>(
     alloc: Global,
     slots: &mut Vec<Option<T>>,
-    at: u32,
+    at: usize,
     edit: E,
 ) -> Result<(), Memory>
     ensures ok { OnOk result (slots.new.items ≡ edited slots.old.items at (E.gives edit)) }
     ensures err { OnErr result (slots.new.items ≡ slots.old.items) }
 {
-    let at = at as usize;
     if at < slots.len() {
         return edit.make(alloc, &mut slots[at]);
+    }
+    // No memory holds so many slots.
+    if at == usize::MAX {
+        return Err(Memory);
     }
     let more = at - slots.len();
     slots.reserve(more + 1)?;
