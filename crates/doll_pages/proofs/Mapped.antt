@@ -147,3 +147,17 @@ module _ {A : Type 0} (root : Root A) (map : finite.FinMap nat_cmp A) (id : ℕ)
 
   pub some_page : (first : List (Option (List (Option (List (Option A)))))) (second : List (Option (List (Option A)))) (page : List (Option A)) → Some first ≡ slot root (id / 32768) → Some second ≡ slot first (id / 1024 % 32) → Some page ≡ slot second (id / 32 % 32) → slot page (id % 32) ≡ finite.get map id
   some_page first second page a b d = sym (got ∙ (ap (option_and_then (λ part. under (under slot) part (path id).1)) (sym a) ∙ (ap (option_and_then (λ part. under slot part (path id).1.1)) (sym b) ∙ ap (option_and_then (λ part. slot part (id % 32))) (sym d))))
+
+-- what stands under a key of a map in a slot, once something in that slot changed
+module _ {A : Type 0} (parts : List (Option (finite.FinMap nat_cmp A))) (at key : ℕ) (f : Option A → Option A) where
+  abbrev in_map : Option (finite.FinMap nat_cmp A) → Option (finite.FinMap nat_cmp A)
+  in_map map = Some (altered (option_map_or (λ m. m) map finite.empty) key f)
+
+  map_changes : Changes finite.get (λ q. eqb q key) key f in_map
+  map_changes None q =
+      get-with_option finite.empty key (f (finite.get finite.empty key)) q
+      ∙ (ap (λ o. cond (eqb q key) (f o) (finite.get {R = nat_cmp} finite.empty q)) (finite.get-empty nat_cmp key) ∙ ap (cond (eqb q key) (f None)) (finite.get-empty nat_cmp q))
+  map_changes (Some map) q = get-with_option map key (f (finite.get map key)) q
+
+  pub under_in_map : (q : ℕ × ℕ) → under finite.get (edited parts at in_map) q ≡ cond (eqb q.0 at && eqb q.1 key) (f (under finite.get parts (at, key))) (under finite.get parts q)
+  under_in_map q = under_edited finite.get (λ n. eqb n key) key f in_map map_changes at parts q

@@ -1,7 +1,6 @@
 pub mod Placed
-pub mod Linked
+pub mod Ascending
 pub mod Linking
-pub mod Children
 pub mod Kept
 pub mod Beyond
 pub mod Fitting

@@ -1,13 +1,11 @@
 -- Entries in the order of their keys: what a search by key finds, and what an edit at its place makes of them.
-use Rattle.std.proofs.Common.{◌≡◌, ℕ, zero, suc, ◌<◌, ◌≤◌, Bool, true, false, not, ◌&&◌, List, [], ◌∷◌, map, filter, length, get_or, take, drop, set, Some, None, leb, ltb, ◌-◌, refl, sym, ◌∙◌, ap, subst, arith}
+use Rattle.std.proofs.Common.{◌≡◌, ℕ, zero, suc, ◌<◌, ◌≤◌, Bool, true, false, not, ◌&&◌, List, [], ◌∷◌, map, length, get_or, take, drop, set, Some, None, refl, sym, ◌∙◌, ap, subst, arith}
 use Rattle.std.specs.Prelude.{T}
 use Rattle.std.specs.List.{insert, remove}
 use Rattle.std.specs.Ordering.{nat_cmp, is_lt, eq_by_cmp}
 use Rattle.std.specs.declared.cmp.Ordering.TheVariants.{Less, Equal, Greater}
 use Rattle.std.specs.FinMap.Entries.{put, where_key, find, below_all, is_sorted}
-use Rattle.std.proofs.Math.Nat.{sub-zero}
 use Rattle.std.proofs.lemmas.List.{map-append, take-map, drop-map}
-use Rattle.std.proofs.lemmas.Bool.{lt-ltb, le-ltb, le-leb, lt-leb}
 use Rattle.std.proofs.lemmas.Bool.Decides.{nat_tests}
 
 pub cmp_less : (a b : ℕ) → a < b → nat_cmp a b ≡ Less
@@ -100,38 +98,6 @@ module _ {X : Type 0} where
   rise (e ∷ es) zero (suc j) d s l m = below_at e.0 es j d (and_first (below_all nat_cmp e.0 es) (is_sorted nat_cmp es) s) (omega arith)
   rise (e ∷ es) (suc i) zero d s l m = absurd (omega arith)
   rise (e ∷ es) (suc i) (suc j) d s l m = rise es i j d (and_second (below_all nat_cmp e.0 es) (is_sorted nat_cmp es) s) (omega arith) (omega arith)
-
-  none_within : (es : List (ℕ × X)) (from to : ℕ) → ((j : ℕ) (d : ℕ × X) → j < length es → to ≤ (get_or es j d).0) → filter (λ (e : ℕ × X). leb from e.0 && ltb e.0 to) es ≡ []
-  none_within [] from to after = refl
-  none_within (e ∷ es) from to after =
-      rw (test (leb from e.0) (ltb e.0 to) (le-ltb e.0 to (after 0 e (omega arith)))) (none_within es from to (λ j d h. after (suc j) d (omega arith)))
-    where
-      test : (a b : Bool) → b ≡ false → (a && b) ≡ false
-      test true b h = h
-      test false b h = refl
-
-  first_within : (es : List (ℕ × X)) (n from to : ℕ) → ((j : ℕ) (d : ℕ × X) → j < length es → from ≤ (get_or es j d).0) → ((j : ℕ) (d : ℕ × X) → j < n → j < length es → (get_or es j d).0 < to) → ((j : ℕ) (d : ℕ × X) → n ≤ j → j < length es → to ≤ (get_or es j d).0) → take n es ≡ filter (λ (e : ℕ × X). leb from e.0 && ltb e.0 to) es
-  first_within [] zero from to low below after = refl
-  first_within [] (suc n) from to low below after = refl
-  first_within (e ∷ es) zero from to low below after = sym (none_within (e ∷ es) from to (λ j d h. after j d (omega arith) h))
-  first_within (e ∷ es) (suc n) from to low below after =
-      let a : leb from e.0 ≡ true = le-leb from e.0 (low 0 e (omega arith)) in
-      let b : ltb e.0 to ≡ true = lt-ltb e.0 to (below 0 e (omega arith) (omega arith)) in
-      rw (a, b) (ap (λ t. e ∷ t) (first_within es n from to (λ j d h. low (suc j) d (omega arith)) (λ j d h m. below (suc j) d (omega arith) (omega arith)) (λ j d h m. after (suc j) d (omega arith) (omega arith))))
-
-  take_nothing : (k : ℕ) → take k (let none : List (ℕ × X) = [] in none) ≡ []
-  take_nothing zero = refl
-  take_nothing (suc k) = refl
-
-  -- the entries from a place to another are those whose keys are in a range
-  pub range_is : (es : List (ℕ × X)) (m n from to : ℕ) → m ≤ n → from ≤ to → ((j : ℕ) (d : ℕ × X) → j < m → j < length es → (get_or es j d).0 < from) → ((j : ℕ) (d : ℕ × X) → m ≤ j → j < length es → from ≤ (get_or es j d).0) → ((j : ℕ) (d : ℕ × X) → j < n → j < length es → (get_or es j d).0 < to) → ((j : ℕ) (d : ℕ × X) → n ≤ j → j < length es → to ≤ (get_or es j d).0) → take (n - m) (drop m es) ≡ filter (λ (e : ℕ × X). leb from e.0 && ltb e.0 to) es
-  range_is es zero n from to o r before low below after = rw (sub-zero n) (first_within es n from to (λ j d h. low j d (omega arith) h) below after)
-  range_is [] (suc m) n from to o r before low below after = take_nothing (n - suc m)
-  range_is (e ∷ es) (suc m) zero from to o r before low below after = absurd (omega arith)
-  range_is (e ∷ es) (suc m) (suc n) from to o r before low below after =
-      let a : leb from e.0 ≡ false = lt-leb from e.0 (before 0 e (omega arith) (omega arith)) in
-      let less : suc n - suc m ≡ n - m = omega arith in
-      rw (less, a) (range_is es m n from to (omega arith) r (λ j d h l. before (suc j) d (omega arith) (omega arith)) (λ j d h l. low (suc j) d (omega arith) (omega arith)) (λ j d h l. below (suc j) d (omega arith) (omega arith)) (λ j d h l. after (suc j) d (omega arith) (omega arith)))
 
 module _ {A B : Type 0} (f : A → B) where
   pub map_insert : (xs : List A) (i : ℕ) (x : A) → map f (insert xs i x) ≡ insert (map f xs) i (f x)

@@ -1,37 +1,42 @@
--- How a table in memory keeps the children of each record: links in one order, parents first (this project's own).
-use Rattle.std.specs.Prelude.{ℕ, ◌≡◌, ◌+◌, ◌*◌, ◌/◌, ◌%◌, ◌^◌, Bool, false, List, map, length, T, Option, Some, None, zip, if◌then◌else◌}
-use Rattle.std.specs.Option.{option_map_or}
+-- How a table in memory keeps the children of each record: a set of ids for each parent at each place (this project's own).
+use Rattle.std.specs.Prelude.{ℕ, ◌≡◌, Bool, false, not, ◌&&◌, ◌||◌, ◌==◌, List, Option, Some}
+use Rattle.std.specs.Option.{option_map, option_map_or}
 use Rattle.std.specs.Ordering.{nat_cmp}
-use Rattle.std.specs.FinMap.Entries.{find, is_sorted}
+use Rattle.std.specs.FinMap as finite
 use Rattle.doll_schema.specs.declared.value.Row.{Row}
+use Rattle.doll_pages.specs.Maps.{under}
+use Rattle.doll_table.specs.Ids.{IdSet, with_id, without_id, has_id}
 use Rattle.doll_table.specs.Tables.{names_parent}
 
--- the child of a link
-abbrev pub child_of : ℕ → ℕ
-child_of link = link % 2 ^ 32
+-- for each place among the foreign keys of a model's rows, the children of each parent by its id
+abbrev pub LinkMaps : Type 0
+LinkMaps = List (Option (finite.FinMap nat_cmp IdSet))
 
--- the link of a child to its parent at a place among the child's parents
-abbrev pub link_of : ℕ → ℕ → ℕ → ℕ
-link_of place parent child = (place * 2 ^ 32 + parent) * 2 ^ 32 + child
+-- the children of a parent at a place
+abbrev pub linked : LinkMaps → ℕ → ℕ → IdSet
+linked links place parent = option_map_or (λ ids. ids) (under finite.get links (place, parent)) finite.empty
 
--- links with their children
-abbrev pub linked : List ℕ → List (ℕ × ℕ)
-linked = map (λ link. (link, child_of link))
+-- the children with one more
+abbrev pub more_linked : ℕ → Option IdSet → Option IdSet
+more_linked id ids = Some (with_id (option_map_or (λ set. set) ids finite.empty) id)
 
--- whether a row names the parent of a link, at the link's place
-abbrev pub has_link : ℕ → Row → Bool
-has_link link = names_parent (link / 2 ^ 32 / 2 ^ 32) (link / 2 ^ 32 % 2 ^ 32)
+-- the children without one
+abbrev pub less_linked : ℕ → Option IdSet → Option IdSet
+less_linked id ids = option_map (λ set. without_id set id) ids
 
--- the child of a link where its row, if it lives, names the link's parent
-abbrev pub linked_child : ℕ → Option Row → Option ℕ
-linked_child link row = (if option_map_or (has_link link) row false then Some (child_of link) else None)
+-- whether a row, where it lives, names a parent at a place
+abbrev pub has_link : ℕ → ℕ → Option Row → Bool
+has_link place parent row = option_map_or (names_parent place parent) row false
 
--- the links are those of the rows
-abbrev pub AreLinked : List (ℕ × Row) → List ℕ → Type 0
-AreLinked entries links = (link : ℕ) → find nat_cmp link (linked links) ≡ linked_child link (find nat_cmp (child_of link) entries)
+-- the links with those of a row
+abbrev pub HasMore : LinkMaps → LinkMaps → Row → ℕ → Type 0
+HasMore links more row id = (place parent child : ℕ) → has_id (linked more place parent) child ≡ (has_id (linked links place parent) child || (child == id && names_parent place parent row))
 
--- a model's rows stand beside their ids in ascending order, with their links
-pub record AreKept (ids : List ℕ) (rows : List Row) (all : List ℕ) : Type 0 where
-  pub long : length rows ≡ length ids
-  pub sorted : T (is_sorted nat_cmp (zip ids rows))
-  pub links : AreLinked (zip ids rows) all
+-- the links without those of a row
+abbrev pub HasLess : LinkMaps → LinkMaps → Row → ℕ → Type 0
+HasLess links less row id = (place parent child : ℕ) → has_id (linked less place parent) child ≡ (has_id (linked links place parent) child && not (child == id && names_parent place parent row))
+
+-- a model's ids and its rows' links are those of its rows
+pub record AreKept (rows : finite.FinMap nat_cmp Row) (ids : IdSet) (links : LinkMaps) : Type 0 where
+  pub living : (id : ℕ) → has_id ids id ≡ finite.contains_key rows id
+  pub named : (place parent id : ℕ) → has_id (linked links place parent) id ≡ has_link place parent (finite.get rows id)

@@ -1,6 +1,7 @@
 //! Rows by model and id.
 #![tactic(auto)]
 
+mod id_list;
 mod links;
 pub mod looking;
 mod model_rows;

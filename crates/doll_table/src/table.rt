@@ -1,4 +1,4 @@
-//! A table of rows by model and id, kept in vectors.
+//! A table of rows by model and id, kept in pages that several tables may share.
 
 ghost use Rattle.std.specs.Prelude.{◌≡◌, ◌<◌, length, is_some, IfOk, OnOk, OnErr, IsSome};
 ghost use Rattle.std.specs.Option.{option_copied};
@@ -7,15 +7,17 @@ ghost use Rattle.doll_table.specs.Fits.{Fits};
 
 use crate::model_rows::ModelRows;
 use crate::rows::Assoc;
-use doll_text::{Copied, Memory};
+use doll_pages::Shared;
 use doll_schema::{Row, Schema};
+use doll_text::{Copied, Memory};
 use std::alloc::Global;
 use std::marker::Model;
 
 /// The rows of each model of a schema.
 #[derive(Drop)]
 pub struct Table {
-    schema: Schema,
+    alloc: Global,
+    schema: Shared<Schema>,
     models: Vec<ModelRows>,
 }
 
@@ -41,26 +43,41 @@ impl Table {
     {
         let mut models = Vec::new(alloc);
         for _model in schema.models() {
-            models.push(ModelRows::new(alloc))?;
+            models.push(ModelRows::new(alloc)?)?;
         }
-        let schema = schema.copy(alloc)?;
-        Ok(Table { schema, models })
+        let schema = Shared::new(alloc, schema.copy(alloc)?)?;
+        Ok(Table {
+            alloc,
+            schema,
+            models,
+        })
     }
 
-    /// A table with the same schema, rows and next ids.
+    /// The same table once more. No row is copied: a write to either of the two copies what it changes.
+    pub fn share(&self, alloc: Global) -> Result<Table, Memory>
+        ensures { IfOk result (λ table. table ≡ self.now) }
+    {
+        let schema = self.schema.copy(alloc)?;
+        let models = share_models(alloc, self.models.as_slice())?;
+        Ok(Table {
+            alloc,
+            schema,
+            models,
+        })
+    }
+
+    /// A table with the same schema, rows and next ids: as `share`.
     pub fn copy(&self, alloc: Global) -> Result<Table, Memory>
         ensures { IfOk result (λ copy. copy ≡ self.now) }
     {
-        let schema = self.schema.copy(alloc)?;
-        let models = copy_models(alloc, self.models.as_slice())?;
-        Ok(Table { schema, models })
+        self.share(alloc)
     }
 
     /// The schema that the table was made for.
     pub fn schema(&self) -> &Schema
         ensures { result.now ≡ self.now.schema }
     {
-        &self.schema
+        self.schema.get()
     }
 
     /// The row of a model under an id, none exactly where no such row lives.
@@ -87,7 +104,7 @@ impl Table {
     pub fn children(&self, assoc: Assoc, parent: u32) -> &[u32]
         ensures { result.now ≡ children_of self.now assoc.model assoc.has_many parent }
     {
-        let Some(model) = self.schema.model(assoc.model) else {
+        let Some(model) = self.schema.get().model(assoc.model) else {
             return &[];
         };
         let Some(many) = model.has_many.get(assoc.has_many as usize) else {
@@ -130,7 +147,7 @@ impl Table {
         ensures err { OnErr result (self.new ≡ self.old) }
     {
         let rows = &mut self.models[model as usize];
-        rows.put(id, row)
+        rows.put(self.alloc, id, row)
     }
 
     /// Takes the row under an id away; the answer is whether it lived. A refusal changes nothing.
@@ -141,16 +158,16 @@ impl Table {
         ensures err { OnErr result (self.new ≡ self.old) }
     {
         let rows = &mut self.models[model as usize];
-        Ok(rows.remove(id))
+        rows.remove(self.alloc, id)
     }
 }
 
-fn copy_models(alloc: Global, models: &[ModelRows]) -> Result<Vec<ModelRows>, Memory>
+fn share_models(alloc: Global, models: &[ModelRows]) -> Result<Vec<ModelRows>, Memory>
     ensures { IfOk result (λ copy. copy.items ≡ models.now) }
 {
     let mut copy = Vec::new(alloc);
     for rows in models {
-        copy.push(rows.copy(alloc)?)?;
+        copy.push(rows.share(alloc)?)?;
     }
     Ok(copy)
 }

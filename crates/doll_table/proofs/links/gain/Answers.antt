@@ -1,0 +1,5 @@
+use Rattle.doll_table.proofs.Linking.{sole_gained}
+use Rattle.doll_table.proofs.links.gain.Goals as goal
+
+pub returns-in-Some-clause-ok : goal.returns-in-Some-clause-ok
+returns-in-Some-clause-ok c = sole_gained c.args.links.now c.edit.new.self c.args.row.now c.in-Some.place c.in-Some.parent c.args.id c.in-Some.ensures c.in_ok-edit.ensures.ok
