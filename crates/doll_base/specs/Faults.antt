@@ -22,6 +22,10 @@ pub record Plan : Type 0 where
   pub calls : ℕ
   pub faults : ℕ
 
+-- The plan of a thing that wasn't called yet.
+abbrev pub fresh_plan : List ℕ → Option ℕ → Plan
+fresh_plan failing fuse = record { failing = failing; fuse = fuse; calls = 0; faults = 0 }
+
 -- All calls fail from this number on, if any.
 abbrev pub is_blown : Option ℕ → ℕ → Bool
 is_blown None calls = false

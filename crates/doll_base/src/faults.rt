@@ -1,7 +1,7 @@
 //! Counts of faults, and plans of which calls fail.
 
 ghost use Rattle.std.specs.Prelude.{◌≡◌, ◌+◌, ℕ, List};
-ghost use Rattle.doll_base.specs.Faults.{Plan, is_due, after_call};
+ghost use Rattle.doll_base.specs.Faults.{Plan, fresh_plan, is_due, after_call};
 
 use http_server::Log;
 use std::marker::Model;
@@ -58,7 +58,7 @@ impl Model for FaultPlan {
 impl FaultPlan {
     /// No call was made yet. Those with these numbers will fail, and all from the number `fuse` on.
     pub fn new(failing: Vec<u64>, fuse: Option<u64>) -> FaultPlan
-        ensures { result ≡ record { failing = failing.items; fuse = fuse; calls = 0; faults = 0 } }
+        ensures { result ≡ fresh_plan failing.items fuse }
     {
         FaultPlan {
             failing,

@@ -42,7 +42,8 @@ pub trait Folder {
 
     /// All the bytes of the file with this name, of which at most `most` are allowed.
     fn read_file(&mut self, alloc: Global, name: &str, most: usize) -> Result<Vec<u8>, FolderFault>
-        ensures told { IfSome (files self.old) (λ files. GivesFile (file_up_to most (file_named name.now files)) result) }
+        ensures told { IfSome (files self.old) (λ files.
+            GivesFile (file_up_to most (file_named name.now files)) result) }
         ensures within { IfOk result (λ bytes. vec_len bytes ≤ most) }
         ensures kept { files self.new ≡ files self.old }
         ensures cause { HasCause Failed (faults self.old) (faults self.new) result }

@@ -2,7 +2,7 @@
 //! given its readings and never fails.
 
 ghost use Rattle.std.specs.Prelude.{◌≡◌, ◌<◌, ◌≤◌, ◌↔◌, ◌∷◌, ◌++◌, [], length, take, min, Some, None, IfOk, OnOk, OnErr, IsErr, IsTrue, vec_len};
-ghost use Rattle.doll_base.specs.Faults.{Rose, KeepsCount, is_due, after_call, after_failure};
+ghost use Rattle.doll_base.specs.Faults.{Rose, KeepsCount, fresh_plan, is_due, after_call, after_failure};
 ghost use Rattle.doll_base.specs.Streams.{Took, IsAtEnd, Appended};
 ghost use Rattle.doll_base.specs.Memories.{given_count};
 ghost use Rattle.doll_base.specs.Readings.{reading_at};
@@ -42,7 +42,7 @@ impl MemSource {
         ensures left { ⟦<MemSource as Source>⟧.left result ≡ Some bytes.items }
         ensures faults { ⟦<MemSource as Source>⟧.faults result ≡ 0 }
         ensures piece { result.piece ≡ piece }
-        ensures plan { result.plan ≡ record { failing = failing.items; fuse = None; calls = 0; faults = 0 } }
+        ensures plan { result.plan ≡ fresh_plan failing.items None }
     {
         MemSource {
             bytes,
@@ -108,7 +108,7 @@ impl MemSink {
         ensures held { ⟦<MemSink as Sink>⟧.held result ≡ Some [] }
         ensures faults { ⟦<MemSink as Sink>⟧.faults result ≡ 0 }
         ensures piece { result.piece ≡ piece }
-        ensures plan { result.plan ≡ record { failing = failing.items; fuse = None; calls = 0; faults = 0 } }
+        ensures plan { result.plan ≡ fresh_plan failing.items None }
     {
         MemSink {
             bytes: Vec::new(alloc),

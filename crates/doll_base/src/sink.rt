@@ -1,6 +1,6 @@
 //! Sinks of bytes.
 
-ghost use Rattle.std.specs.Prelude.{◌≡◌, ◌<◌, ◌≤◌, length, take, ℕ, List, Option, IfOk, OnOk, OnErr};
+ghost use Rattle.std.specs.Prelude.{◌≡◌, ◌<◌, ◌≤◌, [], length, take, ℕ, List, Option, IfOk, OnOk, OnErr};
 ghost use Rattle.doll_base.specs.Faults.{Rose, KeepsCount};
 ghost use Rattle.doll_base.specs.Streams.{Appended, AppendedPart};
 
@@ -20,7 +20,8 @@ pub trait Sink {
     fn write(&mut self, from: &[u8]) -> Result<usize, WriteFault>
         ensures fits { IfOk result (λ n. n ≤ length from.now) }
         ensures some { IfOk result (λ n. 0 < length from.now → 0 < n) }
-        ensures bytes { IfOk result (λ n. Appended (held self.old) (held self.new) (take n from.now)) }
+        ensures bytes { IfOk result (λ n.
+            Appended (held self.old) (held self.new) (take n from.now)) }
         ensures kept { OnErr result (held self.new ≡ held self.old) }
         ensures cause { OnErr result (Rose (faults self.old) (faults self.new)) }
         ensures count { KeepsCount (faults self.old) (faults self.new) };
@@ -30,6 +31,8 @@ pub trait Sink {
 pub fn write_whole<K: Sink>(sink: &mut K, bytes: &[u8]) -> Result<(), WriteFault>
     ensures all { OnOk result (Appended (K.held sink.old) (K.held sink.new) bytes.now) }
     ensures part { AppendedPart (K.held sink.old) (K.held sink.new) bytes.now }
+    // Where there is nothing to write the sink isn't called.
+    ensures uncalled { bytes.now ≡ [] → sink.new ≡ sink.old }
     ensures cause { OnErr result (Rose (K.faults sink.old) (K.faults sink.new)) }
     ensures count { KeepsCount (K.faults sink.old) (K.faults sink.new) }
 {

@@ -45,9 +45,11 @@ pub fn read_all<S: Source>(
 ) -> Result<Vec<u8>, InputFault>
     ensures told { IfSome (S.left source.old) (λ bytes. GivesInput (read_up_to most bytes) result) }
     ensures within { IfOk result (λ bytes. vec_len bytes ≤ most) }
-    ensures bytes { IfOk result (λ bytes. Took (S.left source.old) (S.left source.new) bytes.items) }
+    ensures bytes { IfOk result (λ bytes.
+        Took (S.left source.old) (S.left source.new) bytes.items) }
     ensures end { IfOk result (λ _. IsAtEnd (S.left source.new)) }
-    ensures limit { IsErrOf result TooLong → TookCount (most + 1) (S.left source.old) (S.left source.new) }
+    ensures limit { IsErrOf result TooLong →
+        TookCount (most + 1) (S.left source.old) (S.left source.new) }
     ensures part { TookAtMost (most + 1) (S.left source.old) (S.left source.new) }
     ensures cause { HasCause Failed (S.faults source.old) (S.faults source.new) result }
     ensures count { KeepsCount (S.faults source.old) (S.faults source.new) }
@@ -70,10 +72,13 @@ fn read_piece<S: Source>(
     piece: &mut [u8],
     bytes: &mut Vec<u8>,
 ) -> Result<usize, InputFault>
-    ensures len { IfOk result (λ n. (n ≤ length piece.old) × (vec_len bytes.new ≡ vec_len bytes.old + n)) }
+    ensures fits { IfOk result (λ n. n ≤ length piece.old) }
+    ensures len { IfOk result (λ n. vec_len bytes.new ≡ vec_len bytes.old + n) }
     ensures err { OnErr result (bytes.new.items ≡ bytes.old.items) }
     ensures end { IfOk result (λ n. n ≡ 0 → 0 < length piece.old → IsAtEnd (S.left source.new)) }
-    ensures takes { (first : Option (List ℕ)) → Took first (S.left source.old) bytes.old.items → Took first (S.left source.new) bytes.new.items }
+    ensures takes { (first : Option (List ℕ)) →
+        Took first (S.left source.old) bytes.old.items →
+        Took first (S.left source.new) bytes.new.items }
     ensures cause { IsErrOf result Failed → Rose (S.faults source.old) (S.faults source.new) }
     ensures within { IsErrOf result TooLong → ⊥ }
     ensures count { KeepsCount (S.faults source.old) (S.faults source.new) }

@@ -1,5 +1,6 @@
 //! The trusted edge: sources, sinks, a folder and a clock over what the runtime has. They tell no content, since no
-//! contract can say what a stream, a file or a clock of the system holds.
+//! contract can say what a stream, a file or a clock of the system holds. What a call does to the reader or the writer
+//! inside is said where std knows its bytes.
 
 ghost use Rattle.std.specs.Prelude.{◌≡◌, ◌-◌, ◌/◌, ◌^◌, ◌<◌, ◌≤◌, length, take, min, IfOk, OnErr, None};
 ghost use Rattle.std.specs.Duration.{as_nanos};
@@ -50,7 +51,8 @@ impl<R: Read> Source for StdSource<R> {
         ensures cause { OnErr result (Rose self.old.faults self.new.faults) }
         ensures count { KeepsCount self.old.faults self.new.faults }
         // What the reader loses, where that is known.
-        ensures reader { ReadConsumes (R.remaining self.old.reader) (R.remaining self.new.reader) result into.new }
+        ensures reader { ReadConsumes
+            (R.remaining self.old.reader) (R.remaining self.new.reader) result into.new }
     {
         match read_again(&mut self.reader, into) {
             Ok(count) => Ok(count),
@@ -65,7 +67,8 @@ impl<R: Read> Source for StdSource<R> {
 /// Reads once, and again where a signal interrupted that.
 fn read_again<R: Read>(reader: &mut R, into: &mut [u8]) -> io::Result<usize>
     ensures fits { IfOk result (λ n. n ≤ length into.old) }
-    ensures reader { ReadConsumes (R.remaining reader.old) (R.remaining reader.new) result into.new }
+    ensures reader { ReadConsumes
+        (R.remaining reader.old) (R.remaining reader.new) result into.new }
 {
     for _ in 0..u64::MAX {
         match reader.read(into) {
@@ -111,8 +114,10 @@ impl<W: Write> Sink for StdSink<W> {
         ensures cause { OnErr result (Rose self.old.faults self.new.faults) }
         ensures count { KeepsCount self.old.faults self.new.faults }
         // What the writer gains, where that is known; at a fault no more than one write.
-        ensures writer { IfOk result (λ n. Appends (W.contents self.old.writer) (W.contents self.new.writer) (take n from.now)) }
-        ensures part { OnErr result (AppendsPart (W.contents self.old.writer) (W.contents self.new.writer) from.now) }
+        ensures writer { IfOk result (λ n.
+            Appends (W.contents self.old.writer) (W.contents self.new.writer) (take n from.now)) }
+        ensures part { OnErr result
+            (AppendsPart (W.contents self.old.writer) (W.contents self.new.writer) from.now) }
     {
         if from.is_empty() {
             return Ok(0);
@@ -133,8 +138,10 @@ impl<W: Write> Sink for StdSink<W> {
 /// Writes once and flushes, and writes again where a signal interrupted that.
 fn write_again<W: Write>(writer: &mut W, from: &[u8]) -> io::Result<usize>
     ensures fits { IfOk result (λ n. n ≤ length from.now) }
-    ensures writer { IfOk result (λ n. Appends (W.contents writer.old) (W.contents writer.new) (take n from.now)) }
-    ensures part { OnErr result (AppendsPart (W.contents writer.old) (W.contents writer.new) from.now) }
+    ensures writer { IfOk result (λ n.
+        Appends (W.contents writer.old) (W.contents writer.new) (take n from.now)) }
+    ensures part { OnErr result
+        (AppendsPart (W.contents writer.old) (W.contents writer.new) from.now) }
 {
     for _ in 0..u64::MAX {
         match writer.write(from) {

@@ -33,7 +33,8 @@ pub trait Keeper {
     /// How often the keeper has failed.
     ghost faults: { Self → ℕ };
 
-    /// What is told of one call: the keeper before it, which call it was, whether it failed in it, and the keeper after it.
+    /// What is told of one call: the keeper before it, which call it was, whether it failed in it, and the keeper after
+    /// it.
     ghost called: { Self → Call → Bool → Self → Type 0 };
 
     /// Adds an item at the end.

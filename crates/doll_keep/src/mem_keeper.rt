@@ -1,7 +1,7 @@
 //! A keeper in memory.
 
 ghost use Rattle.std.specs.Prelude.{◌≡◌, ◌∷◌, ◌++◌, [], Some, IfOk, OnOk, OnErr};
-ghost use Rattle.doll_base.specs.Faults.{KeepsCount, HasCause};
+ghost use Rattle.doll_base.specs.Faults.{KeepsCount, HasCause, fresh_plan};
 ghost use Rattle.doll_keep.specs.Kept.{GivesItem, contents, has_failed};
 ghost use Rattle.doll_keep.specs.Calls.{Load, Append, MemCalled, NeverFails};
 ghost use Rattle.doll_keep.specs.declared.keeper.KeepFault.TheVariants.{Failed, Memory};
@@ -32,7 +32,7 @@ impl MemKeeper {
     pub fn new(alloc: Global, failing: Vec<u64>, fuse: Option<u64>) -> MemKeeper
         ensures kept { ⟦<MemKeeper as Keeper>⟧.kept result ≡ Some [] }
         ensures faults { ⟦<MemKeeper as Keeper>⟧.faults result ≡ 0 }
-        ensures plan { result.plan ≡ record { failing = failing.items; fuse = fuse; calls = 0; faults = 0 } }
+        ensures plan { result.plan ≡ fresh_plan failing.items fuse }
     {
         MemKeeper {
             items: Vec::new(alloc),
@@ -78,7 +78,8 @@ impl Keeper for MemKeeper {
 
 /// Adds a copy of these bytes at the end.
 fn add_copy(alloc: Global, items: &mut Vec<Vec<u8>>, bytes: &[u8]) -> Result<(), AllocError>
-    ensures ok { OnOk result (contents items.new.items ≡ contents items.old.items ++ bytes.now ∷ []) }
+    ensures ok { OnOk result
+        (contents items.new.items ≡ contents items.old.items ++ bytes.now ∷ []) }
     ensures err { OnErr result (contents items.new.items ≡ contents items.old.items) }
 {
     items.push(Vec::from_slice(alloc, bytes)?)?;

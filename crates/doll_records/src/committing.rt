@@ -1,6 +1,6 @@
 //! Recording a commit.
 
-ghost use Rattle.std.specs.Prelude.{◌≡◌, ◌+◌, ◌<◌, ◌≤◌, ◌^◌, ◌∷◌, [], ◌++◌, length, vec_len, vec_capacity, IfOk, OnOk, OnErr, IsErrOf, IsOk};
+ghost use Rattle.std.specs.Prelude.{◌≡◌, ◌+◌, ◌<◌, ◌≤◌, ◌^◌, ◌∷◌, [], ◌++◌, length, vec_len, vec_capacity, IfOk, OnOk, OnErr, IsErrOf};
 ghost use Rattle.doll_base.specs.Faults.{KeepsCount, HasCause};
 ghost use Rattle.doll_keep.specs.Calls.{Append};
 ghost use Rattle.doll_keep.specs.Kept.{Added, has_failed};
@@ -10,9 +10,8 @@ ghost use Rattle.doll_journal.specs.Storable.{AreStorable};
 ghost use Rattle.doll_table.specs.Fits.{Fits};
 ghost use Rattle.doll_commit.specs.Commits.{commit_of};
 ghost use Rattle.doll_commit.specs.Moments.{CarriesMoment};
-ghost use Rattle.doll_records.specs.Histories.{table_of, next_moment};
-ghost use Rattle.doll_records.specs.Commitments.{asked, committed, or_refused, made, CalledOnce};
-ghost use Rattle.doll_records.specs.Faults.{GivesKept};
+ghost use Rattle.doll_records.specs.Histories.{next_moment};
+ghost use Rattle.doll_records.specs.Commitments.{asked_at, asked, or_refused, made, GivesCommitted, IsUnrefused, TableCarriesMoment, CalledOnce};
 ghost use Rattle.doll_records.specs.declared.fault.RecordFault.TheVariants as faults;
 
 use crate::fault::RecordFault;
@@ -53,10 +52,12 @@ fn prepare(
 ) -> Result<Prepared, RecordFault>
     requires fits { Fits schema.now table.now }
     requires room { length (spelling commit.now) ≤ 2 ^ 31 }
-    ensures exact { GivesBy made faults.Memory (or_refused (commit_of table.now schema.now commit.now)) result }
+    ensures exact { GivesBy made faults.Memory
+        (or_refused (commit_of table.now schema.now commit.now)) result }
     ensures bytes { IfOk result (λ prepared. prepared.bytes.items ≡ spelling commit.now) }
     ensures fits { IfOk result (λ prepared. Fits schema.now prepared.table) }
-    ensures moments { IfOk result (λ prepared. CarriesMoment schema.now table.now prepared.table commit.now.moment) }
+    ensures moments { IfOk result (λ prepared.
+        CarriesMoment schema.now table.now prepared.table commit.now.moment) }
 {
     let applied = apply::apply(alloc, table, schema, commit)?;
     let bytes = encode(alloc, commit)?;
@@ -71,7 +72,7 @@ fn prepare(
 /// The commit that is asked for at a time, after the last moment.
 fn asked(last: u64, author: u32, serial: u64, changes: Changes, now: u64) -> Commit
     requires { last < LAST_MOMENT }
-    ensures { result ≡ record { author = author; serial = serial; moment = next_moment last now; changes = changes } }
+    ensures { result ≡ asked_at (next_moment last now) author serial changes }
 {
     Commit {
         author,
@@ -115,21 +116,28 @@ impl<K: Keeper> Records<K> {
         now: u64,
     ) -> Result<Committed, RecordFault>
         requires { AreStorable changes }
-        ensures exact { GivesKept (λ c. c) faults.Kept faults.Memory (committed self.old.schema self.old.history (asked self.old.history author serial changes now)) result }
+        ensures exact { GivesCommitted self.old (asked self.old.history author serial changes now) result }
         // The keeper is asked only for a commit that nothing else refuses.
-        ensures last { IsErrOf result faults.Kept → IsOk (committed self.old.schema self.old.history (asked self.old.history author serial changes now)) }
+        ensures last { IsErrOf result faults.Kept →
+            IsUnrefused self.old (asked self.old.history author serial changes now) }
         ensures place { IfOk result (λ c. c.place ≡ length self.new.history) }
-        ensures history { OnOk result (self.new.history ≡ self.old.history ++ asked self.old.history author serial changes now ∷ []) }
-        ensures added { OnOk result (Added (K.kept self.old.keeper) (K.kept self.new.keeper) (spelling (asked self.old.history author serial changes now))) }
+        ensures history { OnOk result (self.new.history ≡
+            self.old.history ++ asked self.old.history author serial changes now ∷ []) }
+        ensures added { OnOk result (Added (K.kept self.old.keeper) (K.kept self.new.keeper)
+            (spelling (asked self.old.history author serial changes now))) }
         // A record that differs has the commit's moment, and so has each living touch parent of it, before and after.
-        ensures moments { IfOk result (λ c. CarriesMoment self.old.schema (table_of self.old.schema self.old.history) (table_of self.new.schema self.new.history) c.moment) }
+        ensures moments { IfOk result (λ c. TableCarriesMoment self.old self.new c.moment) }
         ensures schema { self.new.schema ≡ self.old.schema }
         ensures same { OnErr result (self.new.history ≡ self.old.history) }
         ensures kept { OnErr result (K.kept self.new.keeper ≡ K.kept self.old.keeper) }
-        ensures cause { HasCause faults.Kept (K.faults self.old.keeper) (K.faults self.new.keeper) result }
+        ensures cause { HasCause faults.Kept
+            (K.faults self.old.keeper) (K.faults self.new.keeper) result }
         ensures count { KeepsCount (K.faults self.old.keeper) (K.faults self.new.keeper) }
-        // The keeper is called once, to add the commit's bytes, for a commit that nothing else refuses, and else not at all.
-        ensures called { CalledOnce K.called (spelling (asked self.old.history author serial changes now)) self.old.keeper self.new.keeper result }
+        // The keeper is called once, to add the commit's bytes, for a commit that nothing else refuses, and else not
+        // at all.
+        ensures called { CalledOnce K.called
+            (spelling (asked self.old.history author serial changes now))
+            self.old.keeper self.new.keeper result }
     {
         if self.history.len() as u64 >= MOST_COMMITS {
             return Err(RecordFault::HistoryFull {

@@ -43,7 +43,8 @@ struct Past {
 /// The history of no item.
 fn no_past(alloc: Global, schema: &Schema) -> Result<Past, Memory>
     ensures none { IfOk result (λ past. past.history.items ≡ []) }
-    ensures holds { IfOk result (λ past. Holds schema.now past.history.items past.table past.moment) }
+    ensures holds { IfOk result (λ past.
+        Holds schema.now past.history.items past.table past.moment) }
 {
     let table = Table::empty(alloc, schema)?;
     Ok(Past {
@@ -75,7 +76,8 @@ fn applied_at(
     commit: &Commit,
 ) -> Result<Applied, OpenFault>
     requires fits { Fits schema.now table }
-    ensures exact { Gives OpenFault.Memory (or_apply index (commit_of table schema.now commit.now)) result }
+    ensures exact { Gives OpenFault.Memory
+        (or_apply index (commit_of table schema.now commit.now)) result }
     ensures fits { IfOk result (λ applied. Fits schema.now applied.table) }
     ensures at { IfErr result (λ fault. IsOfItem index fault) }
 {
@@ -113,9 +115,12 @@ fn with_item(
     requires holds { Holds schema.now past.history.items past.table past.moment }
     requires index { index ≡ length past.history.items }
     requires room { index < MOST_COMMITS }
-    ensures exact { GivesBy (λ next. next.history.items) OpenFault.Memory (opened_with schema.now past.history.items item.now) result }
-    ensures holds { IfOk result (λ next. Holds schema.now next.history.items next.table next.moment) }
-    ensures item { IfOk result (λ next. map spelling next.history.items ≡ map spelling past.history.items ++ item.now ∷ []) }
+    ensures exact { GivesBy (λ next. next.history.items) OpenFault.Memory
+        (opened_with schema.now past.history.items item.now) result }
+    ensures holds { IfOk result (λ next.
+        Holds schema.now next.history.items next.table next.moment) }
+    ensures item { IfOk result (λ next. map spelling next.history.items ≡
+        map spelling past.history.items ++ item.now ∷ []) }
     ensures at { IfErr result (λ fault. IsOfItem index fault) }
 {
     let Past {
@@ -143,7 +148,8 @@ fn with_item(
 /// The history of the items that a keeper keeps, or the first fault of the first that has one. The keeper's list stays.
 fn replay<K: Keeper>(alloc: Global, keeper: &mut K, schema: &Schema) -> Result<Past, OpenFault>
     ensures exact { GivesOpened schema.now (λ past. past.history.items) (K.kept keeper.old) result }
-    ensures holds { IfOk result (λ past. Holds schema.now past.history.items past.table past.moment) }
+    ensures holds { IfOk result (λ past.
+        Holds schema.now past.history.items past.table past.moment) }
     ensures spelled { IfOk result (λ past. IsSpelled (K.kept keeper.old) past.history.items) }
     ensures same { K.kept keeper.new ≡ K.kept keeper.old }
     ensures cause { HasCause faults.Kept (K.faults keeper.old) (K.faults keeper.new) result }
@@ -170,10 +176,12 @@ fn replay<K: Keeper>(alloc: Global, keeper: &mut K, schema: &Schema) -> Result<P
 impl<K: Keeper + Drop> Records<K> {
     /// Opens the history that a keeper keeps. A refusal hands the keeper back, and its list is as it was.
     pub fn open(alloc: Global, mut keeper: K, schema: Schema) -> Result<Records<K>, OpenRefusal<K>>
-        ensures exact { GivesOpened schema (λ records. records.history) (K.kept keeper) (or_fault result) }
+        ensures exact { GivesOpened schema
+            (λ records. records.history) (K.kept keeper) (or_fault result) }
         ensures schema { IfOk result (λ records. records.schema ≡ schema) }
         ensures same { K.kept (keeper_after result) ≡ K.kept keeper }
-        ensures cause { HasCause faults.Kept (K.faults keeper) (K.faults (keeper_after result)) (or_fault result) }
+        ensures cause { HasCause faults.Kept
+            (K.faults keeper) (K.faults (keeper_after result)) (or_fault result) }
         ensures count { KeepsCount (K.faults keeper) (K.faults (keeper_after result)) }
         // Each item is loaded once, in order, and the one past them.
         ensures served { IfOk result (λ records.

@@ -87,7 +87,8 @@ impl<K: Keeper> Model for Records<K> {
 
     ghost view = { λ r. record { schema = r.schema; history = r.history.items; keeper = r.keeper } };
 
-    ghost invariant = { λ r. Holds r.schema r.history.items r.table r.moment × IsSpelled (K.kept r.keeper) r.history.items };
+    ghost invariant = { λ r. Holds r.schema r.history.items r.table r.moment
+        × IsSpelled (K.kept r.keeper) r.history.items };
 }
 
 impl<K: Keeper> Records<K> {
@@ -111,10 +112,13 @@ impl<K: Keeper> Records<K> {
 
     /// The table after all commits so far. No row is copied.
     pub fn snapshot(&self, _alloc: Global) -> Result<Snapshot, Memory>
-        ensures table { IfOk result (λ snapshot. table_at self.now.schema self.now.history snapshot.place ≡ Some snapshot.table) }
-        ensures whole { IfOk result (λ snapshot. snapshot.table ≡ table_of self.now.schema self.now.history) }
+        ensures table { IfOk result (λ snapshot.
+            table_at self.now.schema self.now.history snapshot.place ≡ Some snapshot.table) }
+        ensures whole { IfOk result (λ snapshot.
+            snapshot.table ≡ table_of self.now.schema self.now.history) }
         ensures place { IfOk result (λ snapshot. snapshot.place ≡ length self.now.history) }
-        ensures moment { IfOk result (λ snapshot. snapshot.moment ≡ moment_at self.now.history snapshot.place) }
+        ensures moment { IfOk result (λ snapshot.
+            snapshot.moment ≡ moment_at self.now.history snapshot.place) }
         ensures fits { IfOk result (λ snapshot. Fits self.now.schema snapshot.table) }
     {
         let table = self.table.share()?;
