@@ -3,7 +3,7 @@ use Rattle.std.proofs.Common.{◌≡◌, ℕ, suc, ◌+◌, ◌-◌, ◌<◌, �
 use Rattle.std.proofs.lemmas.List.{append-nil}
 use Rattle.doll_text.specs.Steps.{◌>>=◌}
 use Rattle.doll_journal.specs.declared.fault.JournalFault.{JournalFault}
-use Rattle.doll_journal.specs.Reading.{Field, repeated}
+use Rattle.doll_journal.specs.Fields.{Field, repeated}
 
 -- what is read, and behind it what is still to be read
 unfoldable pub fronted : {X : Type 0} → List X → Field (List X) → Field (List X)

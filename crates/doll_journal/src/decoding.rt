@@ -7,7 +7,8 @@ ghost use Rattle.doll_journal.specs.declared.change.Commit.{Commit};
 ghost use Rattle.doll_journal.specs.Spelling.{spelling};
 ghost use Rattle.doll_journal.specs.Storable.{IsStorable, OneSpelling};
 ghost use Rattle.doll_text.specs.Gives.{GivesBy, GivesExactly};
-ghost use Rattle.doll_journal.specs.Reading.{place, byte_at, number_at, text_at, tagged_value, value_at, pair_at, repeated, given_at, create_at, update_at, mark_at, tagged_change, change_at, changes_at, commit_at, commit_of};
+ghost use Rattle.doll_journal.specs.Fields.{place, byte_at, number_at, text_at, repeated, chosen};
+ghost use Rattle.doll_journal.specs.Reading.{value_cases, value_at, pair_at, given_at, create_at, update_at, mark_at, change_cases, change_at, changes_at, commit_at, commit_of};
 
 use crate::change::{Change, Changes, Commit, Given};
 use crate::fault::JournalFault;
@@ -114,7 +115,7 @@ fn u64_at(total: usize, bytes: &[u8]) -> Result<(u64, &[u8]), JournalFault>
 }
 
 /// The bytes of a text, and those after it.
-#[tactic(auto, unfolding(crate::specs::Reading::text_at))]
+#[tactic(auto, unfolding(crate::specs::Fields::text_at))]
 fn text_at(total: usize, bytes: &[u8]) -> Result<(&[u8], &[u8]), JournalFault>
     ensures { GivesExactly (λ x. (x.0.now, x.1.now)) (text_at total bytes.now) result }
 {
@@ -139,7 +140,6 @@ fn value_at(alloc: Global, total: usize, bytes: &[u8]) -> Result<(Value, &[u8]),
     tagged_value(alloc, total, place(total, bytes), tag, rest)
 }
 
-#[tactic(auto, unfolding(crate::specs::Reading::tagged_value))]
 fn tagged_value(
     alloc: Global,
     total: usize,
@@ -147,7 +147,7 @@ fn tagged_value(
     tag: u8,
     bytes: &[u8],
 ) -> Result<(Value, &[u8]), JournalFault>
-    ensures { GivesBy (λ x. (x.0, x.1.now)) JournalFault.Memory (tagged_value total at tag bytes.now) result }
+    ensures { GivesBy (λ x. (x.0, x.1.now)) JournalFault.Memory (chosen (value_cases total) at tag bytes.now) result }
 {
     match tag {
         0 => Ok((Value::Nil, bytes)),
@@ -237,7 +237,6 @@ fn mark_at(alloc: Global, total: usize, bytes: &[u8]) -> Result<((Name, u32), &[
     Ok(((model, id), rest))
 }
 
-#[tactic(auto, unfolding(crate::specs::Reading::tagged_change))]
 fn tagged_change(
     alloc: Global,
     total: usize,
@@ -245,7 +244,7 @@ fn tagged_change(
     tag: u8,
     bytes: &[u8],
 ) -> Result<(Change, &[u8]), JournalFault>
-    ensures { GivesBy (λ x. (x.0, x.1.now)) JournalFault.Memory (tagged_change total at tag bytes.now) result }
+    ensures { GivesBy (λ x. (x.0, x.1.now)) JournalFault.Memory (chosen (change_cases total) at tag bytes.now) result }
 {
     match tag {
         1 => create_at(alloc, total, bytes),

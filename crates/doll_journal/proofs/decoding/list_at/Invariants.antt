@@ -1,5 +1,6 @@
 use Rattle.std.proofs.Common.{◌≡◌, ◌-◌}
-use Rattle.doll_journal.specs.Reading.{change_at, repeated}
+use Rattle.doll_journal.specs.Fields.{repeated}
+use Rattle.doll_journal.specs.Reading.{change_at}
 use Rattle.doll_journal.proofs.Repeated.{fronted}
 use Rattle.doll_journal.proofs.decoding.list_at.Given as goal
 

@@ -1,7 +1,8 @@
 use Rattle.std.proofs.Common.{◌≡◌, ◌-◌, arith}
 use Rattle.std.proofs.lemmas.Result.{err_from_is_err_and}
 use Rattle.doll_journal.specs.declared.fault.JournalFault.TheVariants.{Memory}
-use Rattle.doll_journal.specs.Reading.{pair_at, repeated}
+use Rattle.doll_journal.specs.Fields.{repeated}
+use Rattle.doll_journal.specs.Reading.{pair_at}
 use Rattle.doll_journal.proofs.Repeated.{fronted_starts, fronted_more, fronted_fails, fronted_done}
 use Rattle.doll_journal.proofs.decoding.pairs_at.Goals as goal
 
