@@ -1,20 +1,13 @@
 -- The set beside a list of records.
-use Rattle.std.proofs.Common.{◌≡◌, Ordering, Bool, true, false, cond, ◌||◌, List, [], ◌∷◌, ◌++◌, refl, sym, ◌∙◌, ap, subst, arith}
+use Rattle.std.proofs.Common.{◌≡◌, Bool, true, false, cond, ◌||◌, List, [], ◌∷◌, ◌++◌, refl, sym, ◌∙◌, ap, subst, arith}
 use Rattle.std.specs.List.{list_any, IsDistinct}
-use Rattle.std.specs.Ordering.{nat_cmp, ordering_then, is_eq}
+use Rattle.std.specs.Ordering.{is_eq}
 use Rattle.std.specs.BTreeMap.{is_at}
 use Rattle.std.specs.BTreeSet.{BTreeSet, contains, Updates}
 use Rattle.std.proofs.lemmas.Bool.Decides.{nat_tests}
 use Rattle.std.proofs.lemmas.Map.Keys.{IsDistinct-push}
-use Rattle.doll_commit.specs.Refs.{Ref, is_ref, has}
+use Rattle.doll_commit.specs.Refs.{Ref, ref_cmp, is_ref, has, AreBeside}
 use Rattle.doll_commit.proofs.Closures.{is_ref_equiv, has-append}
-
-abbrev pub ref_cmp : Ref → Ref → Ordering
-ref_cmp x y = ordering_then (nat_cmp x.0 y.0) (nat_cmp x.1 y.1)
-
--- a set has the records of a list, in which none stands twice
-abbrev pub AreBeside : BTreeSet Ref → List Ref → Type 0
-AreBeside members list = ((ref : Ref) → contains ref_cmp members ref ≡ has list ref) × IsDistinct is_ref list
 
 is_test : (x y : Ref) → is_eq (ref_cmp x y) ≡ is_ref y x
 is_test x y = grind (arith, nat_tests)

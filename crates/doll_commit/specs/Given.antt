@@ -31,10 +31,14 @@ abbrev pub key_of : Value → Option ℕ
 key_of (value.Int z) = id_of_int z
 key_of other = None
 
--- what is wrong with a value for a foreign key: it is no whole number, or no living row of the parent's model has that id
+-- what is wrong with a number for a foreign key: no living row of the parent's model has that id
+abbrev pub number_fault : TableMap → ℕ → ℤ → Option Why
+number_fault table model z = if option_map_or (λ id. is_some (row_of table model id)) (id_of_int z) false then None else Some why.BadParent
+
+-- what is wrong with a value for a foreign key: it is no whole number, or one that is no id
 abbrev pub value_fault : TableMap → BelongsTo → Value → Option Why
 value_fault table b value.Nil = None
-value_fault table b (value.Int z) = if option_map_or (λ id. is_some (row_of table b.model id)) (id_of_int z) false then None else Some why.BadParent
+value_fault table b (value.Int z) = number_fault table b.model z
 value_fault table b other = Some why.WrongKind
 
 -- what is wrong with a given value for an attribute, and for a foreign key, of its name

@@ -1,7 +1,10 @@
 -- Records, and sets of them that a step makes larger until it adds nothing (this project's own).
-use Rattle.std.specs.Prelude.{ℕ, ◌+◌, ◌==◌, Bool, ◌&&◌, List, [], ◌∷◌, ◌++◌, fold, length, if◌then◌else◌}
-use Rattle.std.specs.List.{list_any, flat_map}
+use Rattle.std.specs.Prelude.{ℕ, ◌≡◌, ◌+◌, ◌==◌, Bool, ◌&&◌, List, [], ◌∷◌, ◌++◌, fold, length, if◌then◌else◌}
+use Rattle.std.specs.List.{list_any, flat_map, IsDistinct}
 use Rattle.std.specs.Fn.{iterate}
+use Rattle.std.specs.declared.cmp.Ordering.{Ordering}
+use Rattle.std.specs.Ordering.{nat_cmp, ordering_then}
+use Rattle.std.specs.BTreeSet.{BTreeSet, contains}
 use Rattle.std.specs.FinMap as finite
 use Rattle.doll_table.specs.Tables.{Extent, TableMap}
 
@@ -12,9 +15,17 @@ Ref = ℕ × ℕ
 abbrev pub is_ref : Ref → Ref → Bool
 is_ref a b = a.0 == b.0 && a.1 == b.1
 
+-- records in ascending order of their models, then of their ids
+abbrev pub ref_cmp : Ref → Ref → Ordering
+ref_cmp x y = ordering_then (nat_cmp x.0 y.0) (nat_cmp x.1 y.1)
+
 -- whether a record is among these
 abbrev pub has : List Ref → Ref → Bool
 has refs ref = list_any (is_ref ref) refs
+
+-- a set has the records of a list, in which none stands twice
+abbrev pub AreBeside : BTreeSet Ref → List Ref → Type 0
+AreBeside members list = ((ref : Ref) → contains ref_cmp members ref ≡ has list ref) × IsDistinct is_ref list
 
 -- these records and one more, unless it is among them
 abbrev pub with_ref : List Ref → Ref → List Ref

@@ -29,9 +29,13 @@ naming_by table ref model key = if key.1.model == ref.0 then map (λ id. (model,
 abbrev pub naming : TableMap → Schema → Ref → List Ref
 naming table schema ref = flat_map (λ (m : ℕ × Model). flat_map (naming_by table ref m.0) (enumerate_from 0 m.1.belongs_to)) (enumerate_from 0 schema.models)
 
+-- whether some record is not among the others
+abbrev pub has_other : List Ref → List Ref → Bool
+has_other others refs = list_any (λ ref. not (has others ref)) refs
+
 -- whether a row outside of these records names one of them
 abbrev pub is_restricted : TableMap → Schema → List Ref → Bool
-is_restricted table schema removed = list_any (λ gone. list_any (λ ref. not (has removed ref)) (naming table schema gone)) removed
+is_restricted table schema removed = list_any (λ gone. has_other removed (naming table schema gone)) removed
 
 -- the table without these records
 abbrev pub without_rows : TableMap → List Ref → TableMap

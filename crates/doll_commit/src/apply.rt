@@ -41,7 +41,8 @@ pub fn apply(
     ensures exact { Gives CommitFault.Memory (commit_of table.now schema.now commit.now) result }
     ensures fits { IfOk result (λ applied. Fits schema.now applied.table) }
     // A record that differs has the commit's moment, and so has each living touch parent of it, before and after.
-    ensures moments { IfOk result (λ applied. CarriesMoment schema.now table.now applied.table commit.now.moment) }
+    ensures moments { IfOk result
+        (λ applied. CarriesMoment schema.now table.now applied.table commit.now.moment) }
 {
     apply_to(alloc, table.copy(alloc)?, schema, commit)
 }
@@ -58,7 +59,8 @@ pub fn apply_to(
     ensures exact { Gives CommitFault.Memory (commit_of table schema.now commit.now) result }
     ensures fits { IfOk result (λ applied. Fits schema.now applied.table) }
     // As of `apply`.
-    ensures moments { IfOk result (λ applied. CarriesMoment schema.now table applied.table commit.now.moment) }
+    ensures moments { IfOk result
+        (λ applied. CarriesMoment schema.now table applied.table commit.now.moment) }
 {
     if commit.changes.len() > MOST_CHANGES {
         return Err(CommitFault::Refused {
@@ -84,7 +86,8 @@ fn made_course(
 ) -> Result<Course, CommitFault>
     requires fits { Fits schema.now table }
     requires few { length changes.now ≤ 1000 }
-    ensures exact { GivesBy seen CommitFault.Memory (all_made schema.now 0 (start table) changes.now) result }
+    ensures exact { GivesBy seen CommitFault.Memory
+        (all_made schema.now 0 (start table) changes.now) result }
     ensures fits { IfOk result (λ course. Fits schema.now course.table) }
 {
     let mut course = Course {
@@ -105,7 +108,8 @@ fn make_all(
 ) -> Result<(), CommitFault>
     requires fits { Fits schema.now course.old.table }
     requires few { length changes.now ≤ 1000 }
-    ensures exact { Reaches (all_made schema.now 0 (seen course.old) changes.now) (seen course.new) result }
+    ensures exact { Reaches (all_made schema.now 0 (seen course.old) changes.now) (seen course.new)
+        result }
     ensures fits { OnOk result (Fits schema.now course.new.table) }
 {
     for (index, change) in changes.iter().enumerate() {
@@ -123,7 +127,10 @@ fn make_one(
     change: &Change,
 ) -> Result<(), CommitFault>
     requires { Fits schema.now course.old.table }
-    ensures exact { Reaches (or_refused index (next_course schema.now (seen course.old) (made course.old.table schema.now change.now))) (seen course.new) result }
+    ensures exact { Reaches
+        (or_refused index
+        (next_course schema.now (seen course.old) (made course.old.table schema.now change.now)))
+        (seen course.new) result }
     ensures fits { OnOk result (Fits schema.now course.new.table) }
 {
     match make_change(alloc, schema, course, change) {

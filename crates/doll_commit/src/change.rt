@@ -38,7 +38,8 @@ fn filled(
     old: &Row,
 ) -> Result<Row, ChangeFault>
     ensures exact { Answers (spec.filled table.now model.now given.now old.now) result }
-    ensures fits { RowFits table.now model.now old.now → IfOk result (λ row. RowFits table.now model.now row) }
+    ensures fits { RowFits table.now model.now old.now → IfOk result
+        (λ row. RowFits table.now model.now row) }
 {
     if let Some(why) = given_fault(table, model, given) {
         return Err(ChangeFault::Refused(why));
@@ -59,7 +60,8 @@ fn created_row(
     model: u16,
 ) -> Result<Row, ChangeFault>
     ensures exact { Answers (spec.created_row table.now schema.now given.now model) result }
-    ensures fits { (m : Model) → slice_get schema.now.models model ≡ Some m → IfOk result (λ row. RowFits table.now m row) }
+    ensures fits { (m : Model) → slice_get schema.now.models model ≡ Some m → IfOk result
+        (λ row. RowFits table.now m row) }
 {
     let Some(model) = schema.model(model) else {
         return Err(ChangeFault::Refused(Why::UnknownModel));
@@ -78,7 +80,8 @@ fn updated_row(
 ) -> Result<Row, ChangeFault>
     requires { Fits schema.now table.now }
     ensures exact { Answers (spec.updated_row table.now schema.now given.now one) result }
-    ensures fits { (m : Model) → slice_get schema.now.models one.0 ≡ Some m → IfOk result (λ row. RowFits table.now m row) }
+    ensures fits { (m : Model) → slice_get schema.now.models one.0 ≡ Some m → IfOk result
+        (λ row. RowFits table.now m row) }
 {
     let Some(old) = table.row(one.0, one.1) else {
         return Err(ChangeFault::Refused(Why::MissingRow));
@@ -98,7 +101,8 @@ fn create(
 ) -> Result<(), ChangeFault>
     requires fits { Fits schema.now course.old.table }
     requires within { model < length schema.now.models }
-    ensures exact { GoesOn schema.now (seen course.old) (spec.create course.old.table schema.now given.now model) (seen course.new) result }
+    ensures exact { GoesOn schema.now (seen course.old)
+        (spec.create course.old.table schema.now given.now model) (seen course.new) result }
     ensures fits { OnOk result (Fits schema.now course.new.table) }
 {
     let id = course.table.next(model);
@@ -123,7 +127,8 @@ fn update(
 ) -> Result<(), ChangeFault>
     requires fits { Fits schema.now course.old.table }
     requires within { one.0 < length schema.now.models }
-    ensures exact { GoesOn schema.now (seen course.old) (spec.update course.old.table schema.now given.now one) (seen course.new) result }
+    ensures exact { GoesOn schema.now (seen course.old)
+        (spec.update course.old.table schema.now given.now one) (seen course.new) result }
     ensures fits { OnOk result (Fits schema.now course.new.table) }
 {
     let row = updated_row(alloc, &course.table, schema, given, one)?;
@@ -135,7 +140,8 @@ fn update(
 
 fn touch(schema: &Schema, course: &mut Course, one: Ref) -> Result<(), ChangeFault>
     requires fits { Fits schema.now course.old.table }
-    ensures exact { GoesOn schema.now (seen course.old) (spec.touch course.old.table one) (seen course.new) result }
+    ensures exact { GoesOn schema.now (seen course.old) (spec.touch course.old.table one)
+        (seen course.new) result }
     ensures fits { OnOk result (Fits schema.now course.new.table) }
 {
     if !lives(&course.table, one) {
@@ -148,7 +154,8 @@ fn touch(schema: &Schema, course: &mut Course, one: Ref) -> Result<(), ChangeFau
 
 fn destroy(alloc: Global, schema: &Schema, course: &mut Course, one: Ref) -> Result<(), ChangeFault>
     requires fits { Fits schema.now course.old.table }
-    ensures exact { GoesOn schema.now (seen course.old) (spec.destroy course.old.table schema.now one) (seen course.new) result }
+    ensures exact { GoesOn schema.now (seen course.old)
+        (spec.destroy course.old.table schema.now one) (seen course.new) result }
     ensures fits { OnOk result (Fits schema.now course.new.table) }
 {
     if !lives(&course.table, one) {
@@ -171,7 +178,8 @@ pub fn make_change(
     change: &Change,
 ) -> Result<(), ChangeFault>
     requires fits { Fits schema.now course.old.table }
-    ensures exact { GoesOn schema.now (seen course.old) (spec.made course.old.table schema.now change.now) (seen course.new) result }
+    ensures exact { GoesOn schema.now (seen course.old)
+        (spec.made course.old.table schema.now change.now) (seen course.new) result }
     ensures fits { OnOk result (Fits schema.now course.new.table) }
 {
     match change {

@@ -24,7 +24,9 @@ pub struct Course {
 impl Course {
     /// Notes that a record is changed, and its touch parents before that.
     pub fn note(&mut self, schema: &Schema, one: Ref) -> Result<(), Memory>
-        ensures touched { OnOk result (self.new.touched ≡ with_refs (with_ref self.old.touched one) (touch_parents self.old.table schema.now one)) }
+        ensures touched { OnOk result
+            (self.new.touched ≡ with_refs (with_ref self.old.touched one)
+            (touch_parents self.old.table schema.now one)) }
         ensures table { self.new.table ≡ self.old.table }
         ensures ids { self.new.ids ≡ self.old.ids }
     {
@@ -34,7 +36,9 @@ impl Course {
 
     /// Notes a record's touch parents after a change.
     pub fn note_parents(&mut self, schema: &Schema, one: Ref) -> Result<(), Memory>
-        ensures touched { OnOk result (self.new.touched ≡ with_refs self.old.touched (touch_parents self.old.table schema.now one)) }
+        ensures touched { OnOk result
+            (self.new.touched ≡ with_refs self.old.touched
+            (touch_parents self.old.table schema.now one)) }
         ensures table { self.new.table ≡ self.old.table }
         ensures ids { self.new.ids ≡ self.old.ids }
     {
@@ -43,7 +47,9 @@ impl Course {
 
     /// Notes that records are changed, and their touch parents before that.
     pub fn note_all(&mut self, schema: &Schema, records: &[Ref]) -> Result<(), Memory>
-        ensures touched { OnOk result (self.new.touched ≡ with_refs (with_refs self.old.touched records.now) (flat_map (touch_parents self.old.table schema.now) records.now)) }
+        ensures touched { OnOk result
+            (self.new.touched ≡ with_refs (with_refs self.old.touched records.now)
+            (flat_map (touch_parents self.old.table schema.now) records.now)) }
         ensures table { self.new.table ≡ self.old.table }
         ensures ids { self.new.ids ≡ self.old.ids }
     {

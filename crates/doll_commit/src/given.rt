@@ -22,7 +22,8 @@ pub fn value_given<'a>(given: &'a [(Name, Value)], name: &[u8]) -> Option<&'a Va
 }
 
 fn last_given<'a>(given: &'a [(Name, Value)], name: &[u8]) -> Option<&'a (Name, Value)>
-    ensures { option_copied result ≡ find (λ (pair : List ℕ × Value). bytes_eq name.now pair.0) (reverse given.now) }
+    ensures { option_copied result ≡ find (λ (pair : List ℕ × Value). bytes_eq name.now pair.0)
+        (reverse given.now) }
 {
     given.iter().rev().find(|pair| name == pair.0.as_bytes())
 }
@@ -39,7 +40,9 @@ fn last_for_key<'a>(
     given: &'a [(Name, Value)],
     association: &BelongsTo,
 ) -> Option<&'a (Name, Value)>
-    ensures { option_copied result ≡ find (λ (pair : List ℕ × Value). bytes_eq (key_name association.now.name) pair.0) (reverse given.now) }
+    ensures { option_copied result ≡ find
+        (λ (pair : List ℕ × Value). bytes_eq (key_name association.now.name) pair.0)
+        (reverse given.now) }
 {
     given
         .iter()
@@ -80,7 +83,8 @@ fn is_known(model: &Model, name: &[u8]) -> bool
 }
 
 fn attributes_fault(attributes: &[Attribute], name: &[u8], value: &Value) -> Option<Why>
-    ensures { result ≡ spec.first_fault (spec.attribute_fault (name.now, value.now)) attributes.now }
+    ensures { result ≡ spec.first_fault (spec.attribute_fault (name.now, value.now))
+        attributes.now }
 {
     for attribute in attributes {
         let fault = attribute_fault(attribute, name, value);
@@ -102,7 +106,8 @@ fn attribute_fault(attribute: &Attribute, name: &[u8], value: &Value) -> Option<
 }
 
 fn keys_fault(table: &Table, associations: &[BelongsTo], name: &[u8], value: &Value) -> Option<Why>
-    ensures { result ≡ spec.first_fault (spec.key_fault table.now (name.now, value.now)) associations.now }
+    ensures { result ≡ spec.first_fault (spec.key_fault table.now (name.now, value.now))
+        associations.now }
 {
     for association in associations {
         let fault = key_fault(table, association, name, value);
@@ -134,7 +139,7 @@ fn value_fault(table: &Table, association: &BelongsTo, value: &Value) -> Option<
 }
 
 fn number_fault(table: &Table, model: u16, number: i64) -> Option<Why>
-    ensures { result ≡ (if option_map_or (λ id. is_some (row_of table.now model id)) (spec.id_of_int number) false then None else Some Why.BadParent) }
+    ensures { result ≡ spec.number_fault table.now model number }
 {
     match id_of_int(number) {
         Some(id) if lives(table, (model, id)) => None,

@@ -29,18 +29,14 @@ pub struct Refs {
 }
 
 impl Model for Refs {
-    ghost use Rattle.std.specs.Prelude.{List, ◌≡◌};
-    ghost use Rattle.std.specs.List.{IsDistinct};
-    ghost use Rattle.std.specs.Ordering.{nat_cmp, ordering_then};
-    ghost use Rattle.std.specs.BTreeSet.{contains};
-    ghost use Rattle.doll_table.specs.Tables.{row_of};
-    ghost use Rattle.doll_commit.specs.Refs.{Ref, has, is_ref};
+    ghost use Rattle.std.specs.Prelude.{List};
+    ghost use Rattle.doll_commit.specs.Refs.{Ref, AreBeside};
 
     ghost Value = { List Ref };
 
     ghost view = { λ w. w.list.items };
 
-    ghost invariant = { λ w. ((ref : Ref) → contains (λ x y. ordering_then (nat_cmp x.0 y.0) (nat_cmp x.1 y.1)) w.members ref ≡ has w.list.items ref) × IsDistinct is_ref w.list.items };
+    ghost invariant = { λ w. AreBeside w.members w.list.items };
 }
 
 impl Refs {

@@ -36,7 +36,8 @@ pub fn add_dependents(
     schema: &Schema,
     gone: Ref,
 ) -> Result<(), Memory>
-    ensures { OnOk result (removed.new ≡ with_refs removed.old (spec.dependents table.now schema.now gone)) }
+    ensures { OnOk result
+        (removed.new ≡ with_refs removed.old (spec.dependents table.now schema.now gone)) }
 {
     let Some(model) = schema.model(gone.0) else {
         return Ok(());
@@ -54,7 +55,8 @@ fn add_children(
     parent: u32,
     many: &HasMany,
 ) -> Result<(), Memory>
-    ensures { OnOk result (removed.new ≡ with_refs removed.old (spec.children_under table.now parent many.now)) }
+    ensures { OnOk result
+        (removed.new ≡ with_refs removed.old (spec.children_under table.now parent many.now)) }
 {
     if !many.destroy {
         return Ok(());
@@ -89,7 +91,7 @@ pub fn is_restricted(table: &Table, schema: &Schema, removed: &Refs) -> bool
 
 /// Whether a row outside of these records names this one.
 fn is_named(table: &Table, schema: &Schema, removed: &Refs, gone: Ref) -> bool
-    ensures { result ≡ list_any (λ ref. not (has removed.now ref)) (spec.naming table.now schema.now gone) }
+    ensures { result ≡ spec.has_other removed.now (spec.naming table.now schema.now gone) }
 {
     for (number, model) in schema.models().iter().enumerate() {
         let parents = model.belongs_to.as_slice();
@@ -102,7 +104,8 @@ fn is_named(table: &Table, schema: &Schema, removed: &Refs, gone: Ref) -> bool
 
 fn is_named_by(table: &Table, removed: &Refs, gone: Ref, model: u16, parents: &[BelongsTo]) -> bool
     requires { length parents.now ≤ MOST_PARENTS }
-    ensures { result ≡ list_any (λ ref. not (has removed.now ref)) (flat_map (spec.naming_by table.now gone model) (enumerate_from 0 parents.now)) }
+    ensures { result ≡ spec.has_other removed.now
+        (flat_map (spec.naming_by table.now gone model) (enumerate_from 0 parents.now)) }
 {
     for (place, association) in parents.iter().enumerate() {
         if is_named_at(table, removed, gone, model, place as u16, association) {
@@ -120,14 +123,15 @@ fn is_named_at(
     place: u16,
     association: &BelongsTo,
 ) -> bool
-    ensures { result ≡ list_any (λ ref. not (has removed.now ref)) (spec.naming_by table.now gone model (place, association.now)) }
+    ensures { result ≡ spec.has_other removed.now
+        (spec.naming_by table.now gone model (place, association.now)) }
 {
     association.model == gone.0 && stays(removed, model, table.named(model, place, gone.1))
 }
 
 /// Whether one of these is not to be removed.
 fn stays(removed: &Refs, model: u16, ids: &[u32]) -> bool
-    ensures { result ≡ list_any (λ ref. not (has removed.now ref)) (map (λ id. (model, id)) ids.now) }
+    ensures { result ≡ spec.has_other removed.now (map (λ id. (model, id)) ids.now) }
 {
     for id in ids {
         if !removed.contains((model, *id)) {

@@ -77,7 +77,8 @@ fn values_after(
     given: &[(Name, Value)],
     old: &[Value],
 ) -> Result<Values, Memory>
-    ensures { IfOk result (λ values. values ≡ map (spec.value_after given.now) (zip attributes.now old.now)) }
+    ensures { IfOk result
+        (λ values. values ≡ map (spec.value_after given.now) (zip attributes.now old.now)) }
 {
     let mut values = Items::new(alloc);
     for (attribute, value) in attributes.iter().zip(old) {
@@ -106,7 +107,8 @@ fn keys_after(
     given: &[(Name, Value)],
     old: &[Option<u32>],
 ) -> Result<ParentIds, Memory>
-    ensures { IfOk result (λ keys. keys ≡ map (spec.key_after given.now) (zip associations.now old.now)) }
+    ensures { IfOk result
+        (λ keys. keys ≡ map (spec.key_after given.now) (zip associations.now old.now)) }
 {
     let mut keys = Items::new(alloc);
     for (association, key) in associations.iter().zip(old) {

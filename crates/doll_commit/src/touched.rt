@@ -24,7 +24,9 @@ pub fn finish(
     ids: Ids,
 ) -> Result<Applied, Memory>
     requires { Fits schema.now table }
-    ensures exact { IfOk result (λ applied. applied ≡ finished schema.now moment (record { table = table; touched = touched; ids = ids })) }
+    ensures exact { IfOk result
+        (λ applied. applied ≡ finished schema.now moment
+        (record { table = table; touched = touched; ids = ids })) }
     ensures fits { IfOk result (λ applied. Fits schema.now applied.table) }
 {
     let mut table = table;
@@ -40,7 +42,9 @@ pub fn add_all_touch_parents(
     table: &Table,
     records: &[Ref],
 ) -> Result<(), Memory>
-    ensures { OnOk result (refs.new ≡ with_refs refs.old (flat_map (touch_parents table.now schema.now) records.now)) }
+    ensures { OnOk result
+        (refs.new ≡ with_refs refs.old
+        (flat_map (touch_parents table.now schema.now) records.now)) }
 {
     for one in records {
         add_touch_parents(refs, schema, table, *one)?;

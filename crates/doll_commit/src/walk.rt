@@ -22,7 +22,8 @@ pub enum Step {
 
 /// The records, and all that steps lead to from them.
 pub fn reached(step: Step, table: &Table, schema: &Schema, seeds: Refs) -> Result<Refs, Memory>
-    ensures { IfOk result (λ all. all ≡ closure (next_of step table.now schema.now) table.now seeds) }
+    ensures { IfOk result
+        (λ all. all ≡ closure (next_of step table.now schema.now) table.now seeds) }
 {
     let mut all = seeds;
     let mut at = 0;

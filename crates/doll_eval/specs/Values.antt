@@ -22,6 +22,17 @@ use Rattle.doll_eval.specs.Operations.{nil, truth, whole, is_true, asked, negate
 abbrev pub variable : List (List ℕ × Val) → List ℕ → Val
 variable vars name = option_map_or (λ (binding : List ℕ × Val). binding.1) (find (λ (binding : List ℕ × Val). bytes_eq binding.0 name) (reverse vars)) nil
 
+-- an attribute, a parent and the children of a record, nil where there is none
+abbrev pub attribute_value : TableMap → ℕ → ℕ → ℕ → Val
+attribute_value table model id at = option_map_or (λ (row : Row). option_map_or val.Plain (slice_get row.values at) nil) (row_of table model id) nil
+
+abbrev pub parent_value : TableMap → Model → ℕ → ℕ → ℕ → Val
+parent_value table m model id at =
+    option_map_or (λ (b : BelongsTo). option_map_or (λ (row : Row). option_map_or (λ key. val.Record b.model key) (parent_of row at) nil) (row_of table model id) nil) (slice_get m.belongs_to at) nil
+
+abbrev pub children_value : TableMap → Model → ℕ → ℕ → ℕ → Val
+children_value table m model id at = option_map_or (λ (many : HasMany). val.List many.model (children_of table model at id)) (slice_get m.has_many at) nil
+
 -- what a living record has as a member of its model
 abbrev pub member_value : TableMap → Model → ℕ → ℕ → Row → Member → Val
 member_value table m model id row (member.Attribute at) = option_map_or val.Plain (slice_get row.values at) nil
@@ -29,7 +40,7 @@ member_value table m model id row (member.Key at) = option_map_or (λ key. val.P
 member_value table m model id row member.Id = val.Plain (value.Int (pos id))
 member_value table m model id row member.UpdatedAt = whole (pos row.updated_at)
 member_value table m model id row (member.Parent at) = option_map_or (λ (b : BelongsTo). option_map_or (λ key. val.Record b.model key) (parent_of row at) nil) (slice_get m.belongs_to at) nil
-member_value table m model id row (member.Children at) = option_map_or (λ (many : HasMany). val.List many.model (children_of table model at id)) (slice_get m.has_many at) nil
+member_value table m model id row (member.Children at) = children_value table m model id at
 member_value table m model id row member.Unknown = nil
 
 -- a step from a record, nil where the record isn't in the table

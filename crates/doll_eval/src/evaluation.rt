@@ -26,10 +26,12 @@ pub fn eval<R: Rows>(
 ) -> Result<Val, Memory>
     requires fits { Fits schema.now (R.table rows.old) }
     requires living { AreLiving (R.table rows.old) vars.now }
-    ensures value { IfOk result (λ v. v ≡ value_of expr.now vars.now schema.now (R.table rows.old)) }
+    ensures value { IfOk result
+        (λ v. v ≡ value_of expr.now vars.now schema.now (R.table rows.old)) }
     ensures living { IfOk result (λ v. IsLiving (R.table rows.old) v) }
     ensures table { R.table rows.new ≡ R.table rows.old }
-    ensures looks { R.looks rows.new ≤ R.looks rows.old + looks_of expr.now vars.now schema.now (R.table rows.old) }
+    ensures looks { R.looks rows.new ≤ R.looks rows.old + looks_of expr.now vars.now schema.now
+        (R.table rows.old) }
 {
     match expr {
         Expr::Nil => Ok(nil()),
@@ -59,13 +61,16 @@ pub fn eval<R: Rows>(
 /// The value of a variable, nil where it isn't bound.
 pub fn look_up(alloc: Global, vars: &Vars, name: &[u8]) -> Result<Val, Memory>
     ensures value { IfOk result (λ v. v ≡ variable vars.now name.now) }
-    ensures living { (table : TableMap) → AreLiving table vars.now → IfOk result (λ v. IsLiving table v) }
+    ensures living { (table : TableMap) → AreLiving table vars.now → IfOk result
+        (λ v. IsLiving table v) }
 {
     held_copy(alloc, last_binding(vars, name))
 }
 
 fn held_copy(alloc: Global, binding: Option<&(Name, Val)>) -> Result<Val, Memory>
-    ensures { IfOk result (λ v. v ≡ option_map_or (λ (b : List ℕ × Val). b.1) (option_copied binding.entry) Operations.nil) }
+    ensures { IfOk result
+        (λ v. v ≡ option_map_or (λ (b : List ℕ × Val). b.1) (option_copied binding.entry)
+        Operations.nil) }
 {
     match binding {
         Some(binding) => binding.1.copy(alloc),
@@ -75,7 +80,8 @@ fn held_copy(alloc: Global, binding: Option<&(Name, Val)>) -> Result<Val, Memory
 
 /// The last binding of a name.
 fn last_binding<'a>(vars: &'a Vars, name: &[u8]) -> Option<&'a (Name, Val)>
-    ensures { option_copied result ≡ find (λ (b : List ℕ × Val). bytes_eq b.0 name.now) (reverse vars.now) }
+    ensures { option_copied result ≡ find (λ (b : List ℕ × Val). bytes_eq b.0 name.now)
+        (reverse vars.now) }
 {
     vars.as_slice()
         .iter()

@@ -66,7 +66,8 @@ pub fn is_settled(op: Op, left: &Val) -> bool
 /// What an operator gives of both sides.
 pub fn operate(alloc: Global, op: Op, left: Val, right: Val) -> Result<Val, Memory>
     ensures value { IfOk result (λ v. v ≡ of.operated op left right) }
-    ensures living { (table : TableMap) → IsLiving table right → IfOk result (λ v. IsLiving table v) }
+    ensures living { (table : TableMap) → IsLiving table right → IfOk result
+        (λ v. IsLiving table v) }
 {
     match op {
         Op::Or | Op::And => Ok(right),

@@ -26,7 +26,8 @@ pub fn print(val: &Val, raw: bool, out: &mut Vec<u8>) -> Result<(), Memory>
 }
 
 fn write(bytes: &[u8], raw: bool, out: &mut Vec<u8>) -> Result<(), Memory>
-    ensures ok { OnOk result (out.new.items ≡ out.old.items ++ (if raw then bytes.now else escaped bytes.now)) }
+    ensures ok { OnOk result
+        (out.new.items ≡ out.old.items ++ (if raw then bytes.now else escaped bytes.now)) }
     ensures err { OnErr result (out.new.items ≡ out.old.items) }
 {
     if raw {

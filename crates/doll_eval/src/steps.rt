@@ -5,8 +5,6 @@ ghost use Rattle.std.specs.Option.{option_map_or};
 ghost use Rattle.doll_schema.specs.declared.value.Row.{Row};
 ghost use Rattle.doll_schema.specs.declared.value.Value.{Value};
 ghost use Rattle.doll_table.specs.Tables.{row_of, parent_of, children_of};
-ghost use Rattle.doll_schema.specs.declared.model.BelongsTo.{BelongsTo};
-ghost use Rattle.doll_schema.specs.declared.model.HasMany.{HasMany};
 ghost use Rattle.doll_schema.specs.Limits.{HasFewParts};
 ghost use Rattle.doll_schema.specs.Lookups.{many_of};
 ghost use Rattle.doll_table.specs.Fits.{Fits};
@@ -49,7 +47,8 @@ fn step_from<R: Rows>(
 ) -> Result<Val, Memory>
     requires fits { Fits schema.now (R.table rows.old) }
     requires living { IsLiving (R.table rows.old) from.now }
-    ensures value { IfOk result (λ v. v ≡ Values.step schema.now (R.table rows.old) from.now name.now) }
+    ensures value { IfOk result
+        (λ v. v ≡ Values.step schema.now (R.table rows.old) from.now name.now) }
     ensures living { IfOk result (λ v. IsLiving (R.table rows.old) v) }
     ensures table { R.table rows.new ≡ R.table rows.old }
     ensures looks { R.looks rows.new ≤ R.looks rows.old + step_looks schema.now from.now name.now }
@@ -70,9 +69,11 @@ fn record_step<R: Rows>(
 ) -> Result<Val, Memory>
     requires fits { Fits schema.now (R.table rows.old) }
     requires living { IsSome (row_of (R.table rows.old) model id) }
-    ensures value { IfOk result (λ v. v ≡ Values.record_step schema.now (R.table rows.old) model id name.now) }
+    ensures value { IfOk result
+        (λ v. v ≡ Values.record_step schema.now (R.table rows.old) model id name.now) }
     ensures table { R.table rows.new ≡ R.table rows.old }
-    ensures looks { R.looks rows.new ≤ R.looks rows.old + step_looks schema.now (Val.Record model id) name.now }
+    ensures looks { R.looks rows.new ≤ R.looks rows.old + step_looks schema.now
+        (Val.Record model id) name.now }
 {
     let Some(of) = schema.model(model) else {
         return Ok(nil());
@@ -100,7 +101,7 @@ fn number_or_nil(number: Option<u32>) -> Val
 /// The parent of a record.
 fn parent<R: Rows>(rows: &mut R, of: &Model, model: u16, id: u32, at: usize) -> Val
     requires { model < length (R.table rows.old).schema.models }
-    ensures value { result ≡ option_map_or (λ (b : BelongsTo). option_map_or (λ (row : Row). option_map_or (λ key. Val.Record b.model key) (parent_of row at) nil) (row_of (R.table rows.old) model id) nil) (slice_get of.now.belongs_to at) nil }
+    ensures value { result ≡ Values.parent_value (R.table rows.old) of.now model id at }
     ensures table { R.table rows.new ≡ R.table rows.old }
     ensures looks { R.looks rows.new ≤ R.looks rows.old + 1 }
 {
@@ -127,7 +128,8 @@ fn children_list<R: Rows>(
 ) -> Result<Val, Memory>
     requires same { slice_get (R.table rows.old).schema.models model ≡ Some of.now }
     requires few { HasFewParts of.now }
-    ensures value { IfOk result (λ v. v ≡ option_map_or (λ (many : HasMany). Val.List many.model (children_of (R.table rows.old) model at id)) (slice_get of.now.has_many at) nil) }
+    ensures value { IfOk result
+        (λ v. v ≡ Values.children_value (R.table rows.old) of.now model id at) }
     ensures table { R.table rows.new ≡ R.table rows.old }
     ensures looks { R.looks rows.new ≤ R.looks rows.old + 1 }
 {
@@ -151,7 +153,7 @@ fn attribute<R: Rows>(
     at: usize,
 ) -> Result<Val, Memory>
     requires { model < length (R.table rows.old).schema.models }
-    ensures value { IfOk result (λ v. v ≡ option_map_or (λ (row : Row). option_map_or Val.Plain (slice_get row.values at) nil) (row_of (R.table rows.old) model id) nil) }
+    ensures value { IfOk result (λ v. v ≡ Values.attribute_value (R.table rows.old) model id at) }
     ensures table { R.table rows.new ≡ R.table rows.old }
     ensures looks { R.looks rows.new ≤ R.looks rows.old + 1 }
 {
@@ -167,7 +169,8 @@ fn attribute<R: Rows>(
 /// A foreign key of a record.
 fn key<R: Rows>(rows: &mut R, model: u16, id: u32, at: usize) -> Option<u32>
     requires { model < length (R.table rows.old).schema.models }
-    ensures value { result ≡ option_map_or (λ (row : Row). parent_of row at) (row_of (R.table rows.old) model id) None }
+    ensures value { result ≡ option_map_or (λ (row : Row). parent_of row at)
+        (row_of (R.table rows.old) model id) None }
     ensures table { R.table rows.new ≡ R.table rows.old }
     ensures looks { R.looks rows.new ≤ R.looks rows.old + 1 }
 {
@@ -183,7 +186,8 @@ fn key<R: Rows>(rows: &mut R, model: u16, id: u32, at: usize) -> Option<u32>
 /// The moment of a record's last change or touch.
 fn updated_at<R: Rows>(rows: &mut R, model: u16, id: u32) -> Val
     requires { model < length (R.table rows.old).schema.models }
-    ensures value { result ≡ option_map_or (λ (row : Row). whole (pos row.updated_at)) (row_of (R.table rows.old) model id) nil }
+    ensures value { result ≡ option_map_or (λ (row : Row). whole (pos row.updated_at))
+        (row_of (R.table rows.old) model id) nil }
     ensures table { R.table rows.new ≡ R.table rows.old }
     ensures looks { R.looks rows.new ≤ R.looks rows.old + 1 }
 {
@@ -196,7 +200,8 @@ fn updated_at<R: Rows>(rows: &mut R, model: u16, id: u32) -> Val
 /// The ids of a record's children.
 fn children<R: Rows>(rows: &mut R, alloc: Global, assoc: Assoc, id: u32) -> Result<Ids, Memory>
     requires { IsSome (many_of (R.table rows.old).schema assoc.model assoc.has_many) }
-    ensures value { IfOk result (λ ids. ids ≡ children_of (R.table rows.old) assoc.model assoc.has_many id) }
+    ensures value { IfOk result
+        (λ ids. ids ≡ children_of (R.table rows.old) assoc.model assoc.has_many id) }
     ensures table { R.table rows.new ≡ R.table rows.old }
     ensures looks { R.looks rows.new ≤ R.looks rows.old + 1 }
 {

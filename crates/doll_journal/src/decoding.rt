@@ -25,7 +25,8 @@ pub fn decode(alloc: Global, bytes: &[u8]) -> Result<Commit, JournalFault>
     // What is read is spelled so.
     ensures found { IfOk result (λ c. (bytes.now ≡ spelling c) × IsStorable c) }
     // What is spelled so is read, unless memory runs out.
-    ensures only { (c : Commit) → IsStorable c → bytes.now ≡ spelling c → Gives JournalFault.Memory (Ok c) result }
+    ensures only { (c : Commit) → IsStorable c → bytes.now ≡ spelling c → Gives JournalFault.Memory
+        (Ok c) result }
 {
     commit_of(alloc, bytes)
 }
@@ -147,7 +148,8 @@ fn tagged_value(
     tag: u8,
     bytes: &[u8],
 ) -> Result<(Value, &[u8]), JournalFault>
-    ensures { GivesBy (λ x. (x.0, x.1.now)) JournalFault.Memory (chosen (value_cases total) at tag bytes.now) result }
+    ensures { GivesBy (λ x. (x.0, x.1.now)) JournalFault.Memory
+        (chosen (value_cases total) at tag bytes.now) result }
 {
     match tag {
         0 => Ok((Value::Nil, bytes)),
@@ -185,7 +187,8 @@ fn pairs_at(
     count: u32,
     bytes: &[u8],
 ) -> Result<(Given, &[u8]), JournalFault>
-    ensures { GivesBy (λ x. (x.0, x.1.now)) JournalFault.Memory (repeated (pair_at total) count bytes.now) result }
+    ensures { GivesBy (λ x. (x.0, x.1.now)) JournalFault.Memory
+        (repeated (pair_at total) count bytes.now) result }
 {
     let mut given = Items::new(alloc);
     let mut rest = bytes;
@@ -244,7 +247,8 @@ fn tagged_change(
     tag: u8,
     bytes: &[u8],
 ) -> Result<(Change, &[u8]), JournalFault>
-    ensures { GivesBy (λ x. (x.0, x.1.now)) JournalFault.Memory (chosen (change_cases total) at tag bytes.now) result }
+    ensures { GivesBy (λ x. (x.0, x.1.now)) JournalFault.Memory
+        (chosen (change_cases total) at tag bytes.now) result }
 {
     match tag {
         1 => create_at(alloc, total, bytes),
@@ -275,7 +279,8 @@ fn list_at(
     count: u32,
     bytes: &[u8],
 ) -> Result<(Changes, &[u8]), JournalFault>
-    ensures { GivesBy (λ x. (x.0, x.1.now)) JournalFault.Memory (repeated (change_at total) count bytes.now) result }
+    ensures { GivesBy (λ x. (x.0, x.1.now)) JournalFault.Memory
+        (repeated (change_at total) count bytes.now) result }
 {
     let mut changes = Items::new(alloc);
     let mut rest = bytes;
@@ -289,7 +294,8 @@ fn list_at(
 
 #[tactic(auto, unfolding(crate::specs::Reading::changes_at))]
 fn changes_at(alloc: Global, total: usize, bytes: &[u8]) -> Result<(Changes, &[u8]), JournalFault>
-    ensures { GivesBy (λ x. (x.0, x.1.now)) JournalFault.Memory (changes_at total bytes.now) result }
+    ensures { GivesBy (λ x. (x.0, x.1.now)) JournalFault.Memory (changes_at total bytes.now)
+        result }
 {
     let (count, rest) = u32_at(total, bytes)?;
     list_at(alloc, total, count, rest)

@@ -58,7 +58,8 @@ fn put_change(out: &mut Vec<u8>, change: &Change) -> Result<(), Memory>
 /// A tag, a model and an id.
 fn put_mark(out: &mut Vec<u8>, tag: u8, model: &Name, id: u32) -> Result<(), Memory>
     requires { length model.now < 2 ^ 32 }
-    ensures { OnOk result (out.new.items ≡ out.old.items ++ tag ∷ (text_bytes model.now ++ to_be_bytes w32 id)) }
+    ensures { OnOk result
+        (out.new.items ≡ out.old.items ++ tag ∷ (text_bytes model.now ++ to_be_bytes w32 id)) }
 {
     out.push(tag)?;
     put_text(out, model.as_bytes())?;

@@ -136,7 +136,8 @@ fn has_model_keys(json: &Value) -> bool
 
 /// A name of a model's own, under a key.
 fn own_name(alloc: Global, at: Place, json: &Value, key: &str) -> Result<Name, SchemaFault>
-    ensures { Gives SchemaFault.Memory (ok_or (name_at key.now (view json.now)) (SchemaFault.BadForm at)) result }
+    ensures { Gives SchemaFault.Memory
+        (ok_or (name_at key.now (view json.now)) (SchemaFault.BadForm at)) result }
 {
     let Some(name) = name_at(json, key) else {
         return Err(SchemaFault::BadForm { at });
@@ -192,7 +193,8 @@ fn attribute_draft(
     earlier: &[Attribute],
     json: &Value,
 ) -> Result<Attribute, SchemaFault>
-    ensures exact { Gives SchemaFault.Memory (attribute_draft at earlier.now (view json.now)) result }
+    ensures exact { Gives SchemaFault.Memory (attribute_draft at earlier.now (view json.now))
+        result }
     ensures room { OnOk result (at.item < MOST_ATTRIBUTES) }
 {
     if !has_only(json, &["name", "kind", "null"]) {
@@ -254,7 +256,8 @@ fn attribute_has(name: &[u8], attributes: &[Attribute]) -> bool
 }
 
 fn parent_has(name: &[u8], parents: &[ParentDraft]) -> bool
-    ensures { result ≡ list_any (λ p. bytes_eq name.now p.name || bytes_eq name.now p.key) parents.now }
+    ensures { result ≡ list_any (λ p. bytes_eq name.now p.name || bytes_eq name.now p.key)
+        parents.now }
 {
     parents
         .iter()
@@ -273,7 +276,8 @@ fn model_parents(
     attributes: &[Attribute],
     json: &Value,
 ) -> Result<ParentDrafts, SchemaFault>
-    ensures exact { Gives SchemaFault.Memory (parents_of model attributes.now (view json.now)) result }
+    ensures exact { Gives SchemaFault.Memory (parents_of model attributes.now (view json.now))
+        result }
     ensures few { IfOk result (λ parents. length parents ≤ MOST_PARENTS) }
 {
     let Some(items) = list_or_empty(json, "belongs_to") else {
@@ -297,7 +301,8 @@ fn parent_draft(
     earlier: &[ParentDraft],
     json: &Value,
 ) -> Result<ParentDraft, SchemaFault>
-    ensures exact { Gives SchemaFault.Memory (parent_draft at attributes.now earlier.now (view json.now)) result }
+    ensures exact { Gives SchemaFault.Memory
+        (parent_draft at attributes.now earlier.now (view json.now)) result }
     ensures room { OnOk result (at.item < MOST_PARENTS) }
 {
     if !has_only(json, &["name", "model", "touch", "null"]) {
@@ -350,7 +355,8 @@ fn model_manys(
     parents: &[ParentDraft],
     json: &Value,
 ) -> Result<ManyDrafts, SchemaFault>
-    ensures exact { Gives SchemaFault.Memory (manys_of model attributes.now parents.now (view json.now)) result }
+    ensures exact { Gives SchemaFault.Memory
+        (manys_of model attributes.now parents.now (view json.now)) result }
     ensures few { IfOk result (λ manys. length manys ≤ MOST_MANYS) }
 {
     let Some(items) = list_or_empty(json, "has_many") else {
@@ -375,7 +381,8 @@ fn many_draft(
     earlier: &[ManyDraft],
     json: &Value,
 ) -> Result<ManyDraft, SchemaFault>
-    ensures exact { Gives SchemaFault.Memory (many_draft at attributes.now parents.now earlier.now (view json.now)) result }
+    ensures exact { Gives SchemaFault.Memory
+        (many_draft at attributes.now parents.now earlier.now (view json.now)) result }
     ensures room { OnOk result (at.item < MOST_MANYS) }
 {
     if !has_only(json, &["name", "model", "inverse", "dependent"]) {

@@ -78,7 +78,8 @@ pub fn whole_at(json: &Value, key: &str) -> Option<u64>
 
 /// The object under a key.
 pub fn object_at<'a>(json: &'a Value, key: &str) -> Option<&'a Map<String, Value>>
-    ensures { option_map (λ m. members_view m.now.entries) result ≡ object_at key.now (view json.now) }
+    ensures { option_map (λ m. members_view m.now.entries) result ≡ object_at key.now
+        (view json.now) }
 {
     json.get(key)?.as_object()
 }

@@ -59,7 +59,8 @@ fn linked_parents(
 ) -> Result<Parents, SchemaFault>
     requires models { AreDraftsWithinLimits models.now }
     requires few { length drafts.now ≤ MOST_PARENTS }
-    ensures exact { Gives SchemaFault.Memory (belongs_to_from models.now number [] drafts.now) result }
+    ensures exact { Gives SchemaFault.Memory (belongs_to_from models.now number [] drafts.now)
+        result }
     ensures few { IfOk result (λ parents. length parents ≤ MOST_PARENTS) }
 {
     let mut parents = Items::new(alloc);
@@ -118,7 +119,8 @@ fn linked_manys(
 ) -> Result<Manys, SchemaFault>
     requires models { AreDraftsWithinLimits models.now }
     requires few { length drafts.now ≤ MOST_MANYS }
-    ensures exact { Gives SchemaFault.Memory (has_many_from models.now number own.now [] drafts.now) result }
+    ensures exact { Gives SchemaFault.Memory
+        (has_many_from models.now number own.now [] drafts.now) result }
     ensures few { IfOk result (λ manys. length manys ≤ MOST_MANYS) }
 {
     let mut manys = Items::new(alloc);
@@ -143,7 +145,8 @@ fn has_many_of(
     draft: &ManyDraft,
 ) -> Result<HasMany, SchemaFault>
     requires { AreDraftsWithinLimits models.now }
-    ensures { Gives SchemaFault.Memory (has_many_of models.now own.now at earlier.now draft.now) result }
+    ensures { Gives SchemaFault.Memory (has_many_of models.now own.now at earlier.now draft.now)
+        result }
 {
     let Some(model) = draft_named(models, draft.model.as_bytes()) else {
         return Err(SchemaFault::UnknownModel { at });
