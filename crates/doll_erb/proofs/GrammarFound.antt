@@ -11,7 +11,7 @@ use Rattle.doll_expr.specs.declared.token.Token.{Token}
 use Rattle.doll_expr.specs.declared.token.TokenKind.{TokenKind}
 use Rattle.doll_expr.specs.declared.token.TokenKind.TheVariants as kind
 use Rattle.doll_text.specs.declared.words.Word.TheVariants as word
-use Rattle.doll_expr.specs.Reading.{◌>>=◌, first_kind, expr_at, whole_of, is_end}
+use Rattle.doll_expr.specs.Reading.{◌>>=◌, first_kind, fault_at, is_end}
 use Rattle.doll_expr.specs.Tokens.{tokens_of}
 use Rattle.doll_erb.specs.declared.node.Node.{Node, roll-Node}
 use Rattle.doll_erb.specs.declared.node.Node.TheOpen.{Node-F}
@@ -29,8 +29,11 @@ use Rattle.doll_erb.specs.declared.piece.TagKind.{TagKind}
 use Rattle.doll_erb.specs.declared.piece.TagKind.TheVariants as tag
 use Rattle.doll_erb.specs.Cuts.{cut_of}
 use Rattle.doll_erb.specs.Partials.{dependency_of}
-use Rattle.doll_erb.specs.Tags.{finished, key_at, each_item_at, each_of, cache_of, run_by, run_of, write_of, comment_by, role_of}
-use Rattle.doll_erb.specs.Marks.{word_at}
+use Rattle.doll_erb.specs.declared.node.Local.{Local}
+use Rattle.doll_erb.specs.declared.render.Listed.{Listed}
+use Rattle.doll_erb.specs.Shapes.{is_fixed, Said, Shape, item_at, reads}
+use Rattle.doll_erb.specs.Tags as tags
+use Rattle.doll_erb.specs.Tags.{keyed, closed, parts, run, locals, item_of, collection, cached, named_item, options, collected, rendered, write, raw, comment_by, role_of}
 use Rattle.doll_erb.specs.Trees.{Content, Open, Read, and_then, before, with_nodes, arm, ended, from_arm, from_last, text_of, text_nodes, front_text, front_len, is_plain, is_plain_kind, content_of, in_tag, role_in, by_role, at_text_end, at_closing, opened_by, number_in, node_of, block_of, content_from, whole, tree_by, tree_of}
 use Rattle.doll_erb.specs.Grammar.{Does, IsOpening, IsClosing, ArePlain, BeginsWithTag, Made, Makes, nothing, texts, leaf, each, cache, if_arms, last_arm, else_part, elsif_arm, IsTemplate}
 use Rattle.doll_erb.proofs.Blocks.{content_front, front_len_yes, front_len_no, front_len_nil, front_rest_yes, front_rest_no, rest_ends, no_more, tag_step}
@@ -46,43 +49,73 @@ says_bind : {A : Type 0} (r : Result A ExprFault) (f : A → Result Role ExprFau
 says_bind (Ok a) f says_it = says_it a
 says_bind (Err fault) f says_it = tt
 
-says_if : (stands : Bool) (fault : ExprFault) (what : Role) → says what ≡ true → Says (cond stands (Ok what) (Err fault))
-says_if true fault what says_it = says_it
-says_if false fault what says_it = tt
+says_cond : (b : Bool) (one other : Result Role ExprFault) → Says one → Says other → Says (cond b one other)
+says_cond true one other x y = x
+says_cond false one other x y = y
 
-each_says : (ts : List Token) → Says (each_of ts)
-unfolding each_of
-each_says ts =
-    says_bind (expr_at ts) (λ (list : Expr × List Token). each_item_at list.1 >>= λ (name : List ℕ × List Token). finished (role.Opens (opening.Each list.0 name.0)) name.1)
-    (λ (list : Expr × List Token). says_bind (each_item_at list.1) (λ (name : List ℕ × List Token). finished (role.Opens (opening.Each list.0 name.0)) name.1)
-    (λ (name : List ℕ × List Token). says_if (is_end (first_kind name.1)) _ (role.Opens (opening.Each list.0 name.0)) refl))
+-- whatever a sentence of the shape comes to says something
+abbrev Speaks : Shape Role → Type 0
+Speaks (Shape.ends a) = Says a
+Speaks (Shape.then i next) = (x : Said i) → Speaks (next x)
+Speaks (Shape.either f one other) = Speaks one × Speaks other
 
-cache_says : (ts : List Token) → Says (cache_of ts)
-unfolding cache_of
-cache_says ts =
-    says_bind (key_at ts) (λ (key : List KeyPart × List Token). word_at word.Do key.1 >>= λ (rest : List Token). finished (role.Opens (opening.Cache key.0)) rest)
-    (λ (key : List KeyPart × List Token). says_bind (word_at word.Do key.1) (λ (rest : List Token). finished (role.Opens (opening.Cache key.0)) rest)
-    (λ (rest : List Token). says_if (is_end (first_kind rest)) _ (role.Opens (opening.Cache key.0)) refl))
+read_says : (shape : Shape Role) → Speaks shape → (ts : List Token) → Says (reads shape ts)
+unfolding reads
+read_says (Shape.ends a) speaks ts = says_cond (is_end (first_kind ts)) a (Err (fault_at None ts)) speaks tt
+read_says (Shape.then i next) speaks ts = says_bind (item_at i ts) (λ (x : Said i × List Token). reads (next x.0) x.1) (λ x. read_says (next x.0) (speaks x.0) x.1)
+read_says (Shape.either f one other) speaks ts = says_cond (is_fixed f (first_kind ts)) (reads one (drop 1 ts)) (reads other ts) (read_says one speaks.0 (drop 1 ts)) (read_says other speaks.1 ts)
 
-run_says : (k : TokenKind) (ts : List Token) → Says (run_by k ts)
-run_says (kind.Word word.If) ts = says_bind (whole_of (drop 1 ts)) (λ (e : Expr). Ok (role.Opens (opening.If e))) (λ e. refl)
-run_says (kind.Word word.Elsif) ts = says_bind (whole_of (drop 1 ts)) (λ (e : Expr). Ok (role.Closes (closing.Elsif e))) (λ e. refl)
-run_says (kind.Word word.Else) ts = says_if (is_end (first_kind (drop 1 ts))) _ (role.Closes closing.Else) refl
-run_says (kind.Word word.End) ts = says_if (is_end (first_kind (drop 1 ts))) _ (role.Closes closing.End) refl
-run_says (kind.Word word.Cache) ts = cache_says (drop 1 ts)
-run_says _ ts = each_says ts
+keyed_says : (key : List KeyPart) → Speaks (keyed key)
+unfolding keyed
+keyed_says key = λ x. refl
+
+closed_says : (key : List KeyPart) → Speaks (closed key)
+unfolding closed
+closed_says key = λ x. keyed_says key
+
+parts_say : (n : ℕ) (key : List KeyPart) → Speaks (parts n key)
+unfolding parts
+parts_say zero key = closed_says key
+parts_say (suc n) key = ((λ a. parts_say n (key ++ a ∷ [])), closed_says key)
+
+run_says : Speaks run
+unfolding run tags.cache tags.each
+run_says = ((λ a. refl), ((λ a. refl), (refl, (refl, (((λ a. parts_say 7 (a ∷ [])), λ a. keyed_says (a ∷ [])), λ list x y name z. refl)))))
+
+locals_say : (at : ℕ) (name : List ℕ) (n : ℕ) (before : List Local) → Speaks (locals at name n before)
+unfolding locals
+locals_say at name zero before = refl
+locals_say at name (suc n) before = ((λ variable x a. locals_say at name n _), refl)
+
+collection_says : (at : ℕ) (of : Listed) (item : Option (List ℕ)) (is_cached : Bool) → Says (collection at of item is_cached)
+unfolding collection
+collection_says at of item is_cached = says_bind (item_of of.at of.name item) _ (λ name. refl)
+
+cached_says : (at : ℕ) (of : Listed) (item : Option (List ℕ)) → Speaks (cached at of item)
+unfolding cached
+cached_says at of item = λ x y z. collection_says at of item true
+
+write_says : (at : ℕ) → Speaks (write at)
+unfolding write rendered collected options named_item
+write_says at =
+    (((λ x name y z w list. (((λ u v item. (cached_says at _ (Some item), collection_says at _ (Some item) false)), cached_says at _ None), collection_says at _ None false)),
+    λ name. locals_say at name.0 64 []), λ a. refl)
+
+raw_says : (at : ℕ) → Speaks (raw at)
+unfolding raw
+raw_says at = λ a. refl
 
 comment_says : (at : ℕ) (name : Option (List ℕ)) → not (is_some name) ≡ false → says (comment_by at name) ≡ true
 comment_says at None other = absurd (cc other)
 comment_says at (Some name) other = refl
 
 kind_says : (at : ℕ) (k : TagKind) (content : List ℕ) → is_plain_kind k content ≡ false → Says (role_of at k content)
-unfolding role_of run_of
+unfolding role_of
 kind_says at tag.Text content other = absurd (cc other)
 kind_says at tag.Comment content other = comment_says at (dependency_of content) other
-kind_says at tag.Write content other = says_bind (write_of at (tokens_of content)) (λ (node : Node). Ok (role.Leaf node)) (λ node. refl)
-kind_says at tag.Raw content other = says_bind (whole_of (tokens_of content)) (λ (e : Expr). Ok (role.Leaf (roll-Node (Node-F.Raw at e)))) (λ e. refl)
-kind_says at tag.Run content other = run_says (first_kind (tokens_of content)) (tokens_of content)
+kind_says at tag.Write content other = read_says (write at) (write_says at) (tokens_of content)
+kind_says at tag.Raw content other = read_says (raw at) (raw_says at) (tokens_of content)
+kind_says at tag.Run content other = read_says run run_says (tokens_of content)
 
 says_so : (at : ℕ) (r : Result Role ExprFault) (what : Role) → Says r → in_tag at r ≡ Ok what → says what ≡ true
 says_so at (Ok one) what says_it is = let same : one ≡ what = cc is in ap says (sym same) ∙ says_it

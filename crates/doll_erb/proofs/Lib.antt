@@ -2,11 +2,10 @@ pub mod Places
 pub mod Cuts
 pub mod Blocks
 pub mod BlockParts
-pub mod TagTokens
-pub mod TagPartsFound
-pub mod TagFound
-pub mod TagPartsOnly
-pub mod TagOnly
+pub mod Expressions
+pub mod Items
+pub mod Shapes
+pub mod Tags
 pub mod GrammarSteps
 pub mod GrammarOnly
 pub mod GrammarFound

@@ -1,10 +1,9 @@
 pub mod Pieces
 pub mod Cuts
 pub mod Partials
-pub mod Marks
+pub mod Shapes
 pub mod Tags
 pub mod Trees
-pub mod TagGrammar
 pub mod Grammar
 pub mod Faults
 pub mod Parts

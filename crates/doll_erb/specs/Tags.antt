@@ -1,6 +1,5 @@
--- What a tag means: the grammar of tags over the tokens of their content, with the first fault (this project's own, after ERB and Rails).
-use Rattle.std.specs.Prelude.{ℕ, zero, suc, Bool, true, false, ◌&&◌, ◌||◌, List, [], ◌∷◌, ◌++◌, drop, bytes_eq, Option, None, Some, Result, Ok, Err, if◌then◌else◌}
-use Rattle.std.specs.List.{list_any}
+-- The grammar of tags: which tokens a tag's content has, and what the tag does (this project's own, after ERB and Rails).
+use Rattle.std.specs.Prelude.{ℕ, zero, suc, ◌≡◌, Bool, true, false, List, [], ◌∷◌, ◌++◌, Option, None, Some, Result, Ok, Err, ◌⊎◌, if◌then◌else◌}
 use Rattle.std.specs.Borrow.{Bor}
 use Rattle.doll_expr.specs.declared.expr.Expr.{Expr}
 use Rattle.doll_expr.specs.declared.expr.ExprFault.{ExprFault}
@@ -8,17 +7,14 @@ use Rattle.doll_expr.specs.declared.expr.ExprFault.TheVariants.{Unexpected, Memo
 use Rattle.doll_expr.specs.declared.token.Mark.TheVariants as mark
 use Rattle.doll_text.specs.declared.words.Word.TheVariants as word
 use Rattle.doll_expr.specs.declared.token.Token.{Token}
-use Rattle.doll_expr.specs.declared.token.TokenKind.{TokenKind}
-use Rattle.doll_expr.specs.declared.token.TokenKind.TheVariants as kind
 use Rattle.doll_text.specs.Gives.{GivesBy}
 use Rattle.doll_text.specs.Names.{is_name}
-use Rattle.doll_expr.specs.Tokens.{is_mark, is_word, tokens_of}
-use Rattle.doll_expr.specs.Reading.{◌>>=◌, first_kind, place, fault_at, stops_at, too_deep, expr_at, whole_of, is_end}
+use Rattle.doll_expr.specs.Tokens.{tokens_of}
+use Rattle.doll_expr.specs.Reading.{◌>>=◌}
 use Rattle.doll_erb.specs.declared.node.Node.{Node, roll-Node}
 use Rattle.doll_erb.specs.declared.node.Node.TheOpen.{Node-F}
 use Rattle.doll_erb.specs.declared.node.Local.{Local}
 use Rattle.doll_erb.specs.declared.node.KeyPart.{KeyPart}
-use Rattle.doll_erb.specs.declared.node.KeyPart.TheVariants as part
 use Rattle.doll_erb.specs.declared.role.Role.{Role}
 use Rattle.doll_erb.specs.declared.role.Role.TheVariants as role
 use Rattle.doll_erb.specs.declared.role.Opening.TheVariants as opening
@@ -26,223 +22,154 @@ use Rattle.doll_erb.specs.declared.role.Closing.TheVariants as closing
 use Rattle.doll_erb.specs.declared.render.Listed.{Listed}
 use Rattle.doll_erb.specs.declared.piece.TagKind.{TagKind}
 use Rattle.doll_erb.specs.declared.piece.TagKind.TheVariants as tag
-use Rattle.doll_erb.specs.Marks.{mark_at, word_at}
 use Rattle.doll_text.specs.Segments.{last_segment}
-use Rattle.doll_erb.specs.Partials.{is_partial, dependency_of}
+use Rattle.doll_erb.specs.Partials.{dependency_of}
+use Rattle.doll_erb.specs.Shapes.{Fixed, Item, Front, local, Shape, behind_mark, behind_word, Says, reads, HasTokens, IsFirstFault, ComesToFault}
 
--- a part of a tag, and the tokens after it
-abbrev pub Front : Type 0 → Type 0
-Front A = Result (A × List Token) ExprFault
-
--- what a call answered: the part and the tokens after it, unless memory ran out
+-- what a call answered: what is read and the tokens after it, unless memory ran out
 abbrev pub ReadsTo : {A : Type 0} → Front A → Result (A × Bor (List Token)) ExprFault → Type 0
 ReadsTo expected result = GivesBy (λ x. (x.0, x.1.now)) Memory expected result
 
--- ---- parts of several tags
+-- ---- tags that run: `<% run %>`
 
--- the end of the content
-abbrev pub finished : {A : Type 0} → A → List Token → Result A ExprFault
-finished a ts = if is_end (first_kind ts) then Ok a else Err (fault_at None ts)
+-- "do", behind a key
+unfoldable pub keyed : List KeyPart → Shape Role
+keyed key = behind_word word.Do (Shape.ends (Ok (role.Opens (opening.Cache key))))
 
--- an expression; a dot with `each` behind it has no place here
-unfoldable pub value_at : List Token → Front Expr
-value_at ts = expr_at ts >>= λ x. if is_mark mark.Dot (first_kind x.1) then Err (stops_at None x.1) else Ok x
+-- the bracket that closes the parts of a key
+unfoldable pub closed : List KeyPart → Shape Role
+closed key = behind_mark mark.CloseBracket (keyed key)
 
--- the name that a token is, and the tokens after it
-abbrev pub named : TokenKind → List Token → Front (List ℕ)
-named (kind.Name name) ts = Ok (name, drop 1 ts)
-named other ts = Err (fault_at None ts)
+-- { "," part }, at most so many times, and the bracket
+unfoldable pub parts : ℕ → List KeyPart → Shape Role
+parts zero key = closed key
+parts (suc n) key = Shape.either (Fixed.the_mark mark.Comma) (Shape.then Item.key_part (λ a. parts n (key ++ a ∷ []))) (closed key)
 
--- a name
-abbrev pub name_at : List Token → Front (List ℕ)
-name_at ts = named (first_kind ts) ts
+-- key "do" with key = "[" part { "," part } "]" | part; it has at most 8 parts
+unfoldable pub cache : Shape Role
+cache = Shape.either (Fixed.the_mark mark.OpenBracket) (Shape.then Item.key_part (λ a. parts 7 (a ∷ []))) (Shape.then Item.key_part (λ a. keyed (a ∷ [])))
 
--- the text that names a partial, and the tokens after it
-abbrev pub called : TokenKind → List Token → Front (List ℕ)
-called (kind.Text name) ts = if is_partial name then Ok (name, drop 1 ts) else Err (fault_at None ts)
-called other ts = Err (fault_at None ts)
+-- list ". each" "do" "|" name "|"
+unfoldable pub each : Shape Role
+each = Shape.then Item.listed (λ list. behind_word word.Do (behind_mark mark.Bar (Shape.then (Item.new_name []) (λ name.
+    behind_mark mark.Bar (Shape.ends (Ok (role.Opens (opening.Each list name))))))))
 
--- a text that names a partial
-abbrev pub partial_at : List Token → Front (List ℕ)
-partial_at ts = called (first_kind ts) ts
+-- an expression, which is the test of an `if`
+abbrev pub if_test : Shape Role
+if_test = Shape.then Item.value (λ test. Shape.ends (Ok (role.Opens (opening.If test))))
 
--- ---- keys: part | "[" part { "," part } "]", of at most 8 parts
+-- an expression, which is the test of a further arm
+abbrev pub elsif_test : Shape Role
+elsif_test = Shape.then Item.value (λ test. Shape.ends (Ok (role.Closes (closing.Elsif test))))
 
--- what may stand behind a part
-abbrev pub ends_part : TokenKind → Bool
-ends_part k = is_mark mark.Comma k || is_mark mark.CloseBracket k || is_word word.Do k
+-- run = "if" expr | "elsif" expr | "else" | "end" | "cache" key "do" | list "." "each" "do" "|" name "|"
+unfoldable pub run : Shape Role
+run =
+    Shape.either (Fixed.the_word word.If) if_test
+    (Shape.either (Fixed.the_word word.Elsif) elsif_test
+    (Shape.either (Fixed.the_word word.Else) (Shape.ends (Ok (role.Closes closing.Else)))
+    (Shape.either (Fixed.the_word word.End) (Shape.ends (Ok (role.Closes closing.End)))
+    (Shape.either (Fixed.the_word word.Cache) cache each))))
 
--- an expression as a part of a key
-abbrev pub path_at : List Token → Front KeyPart
-path_at ts = value_at ts >>= λ x. Ok (part.Path x.0, x.1)
+-- ---- tags that write: `<%= write %>`
 
--- a name behind a colon
-abbrev pub symbol_at : List Token → Front KeyPart
-symbol_at ts = name_at ts >>= λ x. Ok (part.Literal x.0, x.1)
+-- the role of a node
+abbrev pub leaf : Node → Role
+leaf node = role.Leaf node
 
--- part = text | ":" name | expr; a text that is more than a text alone is an expression
-abbrev pub part_by : TokenKind → List Token → Front KeyPart
-part_by (kind.Text text) ts = if ends_part (first_kind (drop 1 ts)) then Ok (part.Literal text, drop 1 ts) else path_at ts
-part_by (kind.Mark mark.Colon) ts = symbol_at (drop 1 ts)
-part_by other ts = path_at ts
+-- { "," name ":" expr }, of which no two have one name; there is room for all that a tag's 200 tokens can hold
+unfoldable pub locals : ℕ → List ℕ → ℕ → List Local → Shape Role
+locals at name zero before = Shape.ends (Ok (leaf (roll-Node (Node-F.Render at name before))))
+locals at name (suc n) before = Shape.either (Fixed.the_mark mark.Comma)
+    (Shape.then (Item.new_name before) (λ variable. behind_mark mark.Colon (Shape.then Item.value (λ a. locals at name n (before ++ local variable a ∷ [])))))
+    (Shape.ends (Ok (leaf (roll-Node (Node-F.Render at name before)))))
 
--- a part of a key
-unfoldable pub part_at : List Token → Front KeyPart
-part_at ts = part_by (first_kind ts) ts
+-- what a collection's tag says first
+abbrev pub listing : List ℕ → ℕ → Expr → Listed
+listing name at list = record { name = name; at = at; list = list }
 
--- the parts of a key, where the bracket closes them here
-abbrev pub closed : List KeyPart → List Token → Front (List KeyPart)
-closed parts ts = mark_at mark.CloseBracket ts >>= λ rest. Ok (parts, rest)
-
--- at most so many further parts behind these, and the bracket that closes them
-unfoldable pub parts_from : ℕ → List KeyPart → List Token → Front (List KeyPart)
-parts_from zero parts ts = closed parts ts
-parts_from (suc n) parts ts =
-    if is_mark mark.Comma (first_kind ts) then (part_at (drop 1 ts) >>= λ x. parts_from n (parts ++ x.0 ∷ []) x.1) else closed parts ts
-
--- a part as a key
-abbrev pub one_part : List Token → Front (List KeyPart)
-one_part ts = part_at ts >>= λ x. Ok (x.0 ∷ [], x.1)
-
--- behind the opening bracket
-abbrev pub list_at : List Token → Front (List KeyPart)
-list_at ts = one_part ts >>= λ x. parts_from 7 x.0 x.1
-
--- a key
-unfoldable pub key_at : List Token → Front (List KeyPart)
-key_at ts = if is_mark mark.OpenBracket (first_kind ts) then list_at (drop 1 ts) else one_part ts
-
--- ---- locals: { "," name ":" expr }, of which no two have one name
-
--- a local by its name and its value
-abbrev pub local : List ℕ → Expr → Local
-local name value = record { name = name; value = value }
-
--- whether one of these locals has this name
-abbrev pub has_local : List Local → List ℕ → Bool
-has_local locals name = list_any (λ (l : Local). bytes_eq l.name name) locals
-
--- a name that none of these locals has
-abbrev pub new_name_at : List Local → List Token → Front (List ℕ)
-new_name_at locals ts = name_at ts >>= λ x. if has_local locals x.0 then Err (fault_at None ts) else Ok x
-
--- a local with a name that none of these has
-unfoldable pub local_at : List Local → List Token → Front Local
-local_at locals ts = new_name_at locals ts >>= λ name. mark_at mark.Colon name.1 >>= λ rest. value_at rest >>= λ value. Ok (local name.0 value.0, value.1)
-
--- further locals behind these; there are turns enough, since each takes four of a tag's 200 tokens
-unfoldable pub locals_from : ℕ → List Local → List Token → Front (List Local)
-locals_from zero locals ts = Err (too_deep ts)
-locals_from (suc n) locals ts =
-    if is_mark mark.Comma (first_kind ts) then (local_at locals (drop 1 ts) >>= λ x. locals_from n (locals ++ x.0 ∷ []) x.1) else Ok (locals, ts)
-
--- ---- render
-
--- "render" text { "," name ":" expr }, behind the word
-unfoldable pub partial_of : ℕ → List Token → Result Node ExprFault
-partial_of at ts = partial_at ts >>= λ name. locals_from 64 [] name.1 >>= λ locals. finished (roll-Node (Node-F.Render at name.0 locals.0)) locals.1
-
--- [ "," "as" ":" ":" name ]
-unfoldable pub item_at : List Token → Front (Option (List ℕ))
-item_at ts =
-    if is_mark mark.Comma (first_kind ts) && is_word word.As (first_kind (drop 1 ts))
-    then (mark_at mark.Colon (drop 1 (drop 1 ts)) >>= λ a. mark_at mark.Colon a >>= λ b. name_at b >>= λ name. Ok (Some name.0, name.1))
-    else Ok (None, ts)
-
--- [ "," "cached" ":" "true" ]
-unfoldable pub cached_at : List Token → Front Bool
-cached_at ts =
-    if is_mark mark.Comma (first_kind ts)
-    then (word_at word.Cached (drop 1 ts) >>= λ a. mark_at mark.Colon a >>= λ b. word_at word.True b >>= λ c. Ok (true, c))
-    else Ok (false, ts)
-
--- the item's name: what stands behind `as`, else the last segment of the partial's name, whose text is the fault where that is no name
+-- The item's name: what stands behind `as`, else the last segment of the partial's name, whose text is the fault where that is no name.
 unfoldable pub item_of : ℕ → List ℕ → Option (List ℕ) → Result (List ℕ) ExprFault
 item_of at partial (Some item) = Ok item
 item_of at partial None = if is_name (last_segment partial) then Ok (last_segment partial) else Err (Unexpected at)
 
--- what a collection's tag says first
-abbrev pub listed : List ℕ → ℕ → Expr → Listed
-listed name at list = record { name = name; at = at; list = list }
-
--- "partial" ":" text "," "collection" ":" expr, behind the word `partial`
-unfoldable pub list_of : List Token → Front Listed
-list_of ts =
-    mark_at mark.Colon ts >>= λ a. partial_at a >>= λ name. mark_at mark.Comma name.1 >>= λ b. word_at word.Collection b
-    >>= λ c. mark_at mark.Colon c >>= λ d. value_at d >>= λ list. Ok (listed name.0 (place a) list.0, list.1)
-
 -- the node of a collection
-abbrev pub collection : ℕ → Listed → List ℕ → Bool → Node
-collection at of item cached = roll-Node (Node-F.Collection at of.name of.list item cached)
+unfoldable pub collection : ℕ → Listed → Option (List ℕ) → Bool → Result Role ExprFault
+collection at of item cached = item_of of.at of.name item >>= λ name. Ok (leaf (roll-Node (Node-F.Collection at of.name of.list name cached)))
 
--- a collection, behind the word `partial`; a faulty name of its item is told last
-unfoldable pub collection_of : ℕ → List Token → Result Node ExprFault
-collection_of at ts =
-    list_of ts >>= λ of. item_at of.1 >>= λ item. cached_at item.1 >>= λ cached. finished cached.0 cached.1
-    >>= λ is_cached. item_of of.0.at of.0.name item.0 >>= λ name. Ok (collection at of.0 name is_cached)
+-- "cached" ":" "true"
+unfoldable pub cached : ℕ → Listed → Option (List ℕ) → Shape Role
+cached at of item = behind_word word.Cached (behind_mark mark.Colon (behind_word word.True (Shape.ends (collection at of item true))))
 
--- what is rendered, behind the word `render`
-unfoldable pub rendered : ℕ → List Token → Result Node ExprFault
-rendered at ts = if is_word word.Partial (first_kind ts) then collection_of at (drop 1 ts) else partial_of at ts
+-- ":" ":" name [ "," cached ]
+unfoldable pub named_item : ℕ → Listed → Shape Role
+named_item at of = behind_mark mark.Colon (behind_mark mark.Colon (Shape.then (Item.new_name []) (λ name.
+    Shape.either (Fixed.the_mark mark.Comma) (cached at of (Some name)) (Shape.ends (collection at of (Some name) false)))))
+
+-- [ "," ( "as" item | cached ) ]
+unfoldable pub options : ℕ → Listed → Shape Role
+options at of = Shape.either (Fixed.the_mark mark.Comma)
+    (Shape.either (Fixed.the_word word.As) (named_item at of) (cached at of None))
+    (Shape.ends (collection at of None false))
+
+-- ":" text "," "collection" ":" expr options
+unfoldable pub collected : ℕ → Shape Role
+collected at = behind_mark mark.Colon (Shape.then Item.partial (λ name. behind_mark mark.Comma (behind_word word.Collection (behind_mark mark.Colon
+    (Shape.then Item.value (λ list. options at (listing name.0 name.1 list)))))))
+
+-- render = "partial" collected | text locals
+unfoldable pub rendered : ℕ → Shape Role
+rendered at = Shape.either (Fixed.the_word word.Partial) (collected at) (Shape.then Item.partial (λ name. locals at name.0 64 []))
+
+-- write = "render" render | expr
+unfoldable pub write : ℕ → Shape Role
+write at = Shape.either (Fixed.the_word word.Render) (rendered at) (Shape.then Item.value (λ a. Shape.ends (Ok (leaf (roll-Node (Node-F.Write at a))))))
+
+-- raw = expr
+unfoldable pub raw : ℕ → Shape Role
+raw at = Shape.then Item.value (λ a. Shape.ends (Ok (leaf (roll-Node (Node-F.Raw at a)))))
 
 -- ---- whole tags
 
--- write = "render" .. | expr
-unfoldable pub write_of : ℕ → List Token → Result Node ExprFault
-write_of at ts = if is_word word.Render (first_kind ts) then rendered at (drop 1 ts) else whole_of ts >>= λ e. Ok (roll-Node (Node-F.Write at e))
-
--- "." "each" "do" "|" name "|"
-unfoldable pub each_item_at : List Token → Front (List ℕ)
-each_item_at ts =
-    mark_at mark.Dot ts >>= λ a. word_at word.Each a >>= λ b. word_at word.Do b >>= λ c. mark_at mark.Bar c
-    >>= λ d. name_at d >>= λ name. mark_at mark.Bar name.1 >>= λ e. Ok (name.0, e)
-
--- expr "." "each" "do" "|" name "|"
-unfoldable pub each_of : List Token → Result Role ExprFault
-each_of ts = expr_at ts >>= λ list. each_item_at list.1 >>= λ name. finished (role.Opens (opening.Each list.0 name.0)) name.1
-
--- "cache" key "do", behind the first word
-unfoldable pub cache_of : List Token → Result Role ExprFault
-cache_of ts = key_at ts >>= λ key. word_at word.Do key.1 >>= λ rest. finished (role.Opens (opening.Cache key.0)) rest
-
--- run = "if" expr | "elsif" expr | "else" | "end" | "cache" .. | .. "each" .., by the first token
-abbrev pub run_by : TokenKind → List Token → Result Role ExprFault
-run_by (kind.Word word.If) ts = whole_of (drop 1 ts) >>= λ e. Ok (role.Opens (opening.If e))
-run_by (kind.Word word.Elsif) ts = whole_of (drop 1 ts) >>= λ e. Ok (role.Closes (closing.Elsif e))
-run_by (kind.Word word.Else) ts = finished (role.Closes closing.Else) (drop 1 ts)
-run_by (kind.Word word.End) ts = finished (role.Closes closing.End) (drop 1 ts)
-run_by (kind.Word word.Cache) ts = cache_of (drop 1 ts)
-run_by other ts = each_of ts
-
--- what a tag with no mark does
-unfoldable pub run_of : List Token → Result Role ExprFault
-run_of ts = run_by (first_kind ts) ts
-
--- a comment that names a partial stands on it; others give nothing
+-- a comment that names a partial stands on it; others do nothing
 abbrev pub comment_by : ℕ → Option (List ℕ) → Role
-comment_by at (Some name) = role.Leaf (roll-Node (Node-F.Depends at name))
+comment_by at (Some name) = leaf (roll-Node (Node-F.Depends at name))
 comment_by at None = role.Nothing
-
--- what a comment does
-abbrev pub comment : ℕ → List ℕ → Result Role ExprFault
-comment at content = Ok (comment_by at (dependency_of content))
-
--- what a tag `<%=` does
-abbrev pub written : ℕ → List ℕ → Result Role ExprFault
-written at content = write_of at (tokens_of content) >>= λ node. Ok (role.Leaf node)
-
--- what a tag `<%==` does
-abbrev pub raw : ℕ → List ℕ → Result Role ExprFault
-raw at content = whole_of (tokens_of content) >>= λ e. Ok (role.Leaf (roll-Node (Node-F.Raw at e)))
-
--- what a tag `<%` does
-abbrev pub run : List ℕ → Result Role ExprFault
-run content = run_of (tokens_of content)
 
 -- what a tag at a place does, by its kind and its content
 unfoldable pub role_of : ℕ → TagKind → List ℕ → Result Role ExprFault
 role_of at tag.Text content = Ok role.Nothing
-role_of at tag.Comment content = comment at content
-role_of at tag.Write content = written at content
-role_of at tag.Raw content = raw at content
-role_of at tag.Run content = run content
+role_of at tag.Comment content = Ok (comment_by at (dependency_of content))
+role_of at tag.Write content = reads (write at) (tokens_of content)
+role_of at tag.Raw content = reads (raw at) (tokens_of content)
+role_of at tag.Run content = reads run (tokens_of content)
+
+-- the tokens of the content are a sentence of the shape that comes to this role
+abbrev pub ComesTo : Shape Role → List ℕ → Role → Type 0
+ComesTo shape content what = (ts : List Token) × HasTokens (tokens_of content) ts × Says shape ts (Ok what)
+
+-- This is what a tag at this place does: a text nothing, a comment what it names, another what its sentence says.
+abbrev pub IsTag : ℕ → TagKind → List ℕ → Role → Type 0
+IsTag at tag.Text content what = role.Nothing ≡ what
+IsTag at tag.Comment content what = comment_by at (dependency_of content) ≡ what
+IsTag at tag.Write content what = ComesTo (write at) content what
+IsTag at tag.Raw content what = ComesTo (raw at) content what
+IsTag at tag.Run content what = ComesTo run content what
+
+-- the first fault of the content's tokens, or the fault that their sentence comes to
+abbrev pub HasFault : Shape Role → List ℕ → ExprFault → Type 0
+HasFault shape content fault = IsFirstFault shape (tokens_of content) fault ⊎ ComesToFault shape (tokens_of content) fault
+
+-- This is the fault of a tag at this place. Texts and comments have none.
+abbrev pub IsTagFault : ℕ → TagKind → List ℕ → ExprFault → Type 0
+IsTagFault at tag.Text content fault = ⊥
+IsTagFault at tag.Comment content fault = ⊥
+IsTagFault at tag.Write content fault = HasFault (write at) content fault
+IsTagFault at tag.Raw content fault = HasFault (raw at) content fault
+IsTagFault at tag.Run content fault = HasFault run content fault
+
+-- A tag does what its sentence says, and the other way round; where it does nothing of the kind, it has this fault.
+abbrev pub TagsAreSentences : Type 0
+TagsAreSentences = (at : ℕ) (kind : TagKind) (content : List ℕ)
+    → ((what : Role) → (role_of at kind content ≡ Ok what → IsTag at kind content what) × (IsTag at kind content what → role_of at kind content ≡ Ok what))
+    × ((fault : ExprFault) → role_of at kind content ≡ Err fault → IsTagFault at kind content fault)

@@ -1,13 +1,14 @@
 //! The tags that render partials.
 
-ghost use Rattle.std.specs.Prelude.{◌≡◌, length};
-ghost use Rattle.std.specs.Option.{option_map};
-ghost use Rattle.doll_text.specs.Gives.{Gives, GivesExactly};
+ghost use Rattle.std.specs.Prelude.{◌≡◌, Ok};
+ghost use Rattle.doll_text.specs.Gives.{Gives};
+ghost use Rattle.doll_erb.specs.Shapes as shapes;
 ghost use Rattle.doll_erb.specs.Tags as spec;
-ghost use Rattle.doll_erb.specs.Tags.{ReadsTo};
 
-use crate::mark::{is_end, mark_at, name_at, partial_at, value_at, word_at};
+use crate::mark::{is_end, mark_at, name_at, new_name_at, partial_at, value_at, word_at};
 use crate::node::{Local, Locals, Node};
+use crate::role::Role;
+use crate::tag::finished;
 use doll_expr::{
     Expr, ExprFault, Items, Mark, Name, Token, Word, fault_at, is_mark, is_name, is_word, place,
     rest_of,
@@ -16,121 +17,60 @@ use doll_text::segments::last_segment;
 use std::alloc::Global;
 
 /// More than the locals of a tag, which has 200 tokens at most and takes four for each.
-const TURNS: u8 = 64;
+const MOST_LOCALS: u8 = 64;
 
 /// What a collection's tag says first: the partial's name, where its text stands, and the list.
 #[derive(Drop)]
-struct Listed {
+pub(crate) struct Listed {
     name: Name,
     at: u32,
     list: Expr,
 }
 
 /// A partial, or a collection of them, behind the word `render`.
-#[tactic(auto, unfolding(crate::specs::Tags::rendered))]
-pub(crate) fn rendered(alloc: Global, at: u32, tokens: &[Token]) -> Result<Node, ExprFault>
-    ensures { Gives ExprFault.Memory (spec.rendered at tokens.now) result }
+#[tactic(auto, unfolding(crate::specs::Tags::rendered, crate::specs::Shapes::reads, crate::specs::Shapes::item_at))]
+pub(crate) fn rendered(alloc: Global, at: u32, tokens: &[Token]) -> Result<Role, ExprFault>
+    ensures { Gives ExprFault.Memory (shapes.reads (spec.rendered at) tokens.now) result }
 {
     if is_word(Word::Partial, tokens) {
-        return collection_of(alloc, at, rest_of(tokens));
+        return collected(alloc, at, rest_of(tokens));
     }
-    partial_of(alloc, at, tokens)
-}
-
-/// A partial with its locals.
-#[tactic(auto, unfolding(crate::specs::Tags::partial_of))]
-fn partial_of(alloc: Global, at: u32, tokens: &[Token]) -> Result<Node, ExprFault>
-    ensures { Gives ExprFault.Memory (spec.partial_of at tokens.now) result }
-{
     let (name, rest) = partial_at(alloc, tokens)?;
-    let (locals, rest) = locals_from(alloc, TURNS, Items::new(alloc), rest)?;
-    if !is_end(rest) {
-        return Err(fault_at(None, rest));
-    }
-    Ok(Node::Render { at, name, locals })
+    locals_from(alloc, at, name, MOST_LOCALS, Items::new(alloc), rest)
 }
 
-/// Further locals behind those of `locals`.
-#[tactic(auto, unfolding(crate::specs::Tags::locals_from))]
-fn locals_from<'a>(
+/// At most so many further locals behind those that came before, and the end.
+#[tactic(auto, unfolding(crate::specs::Tags::locals, crate::specs::Shapes::reads, crate::specs::Shapes::item_at))]
+fn locals_from(
     alloc: Global,
-    turns: u8,
+    at: u32,
+    name: Name,
+    left: u8,
     mut locals: Locals,
-    tokens: &'a [Token],
-) -> Result<(Locals, &'a [Token]), ExprFault>
-    ensures { ReadsTo (spec.locals_from turns locals tokens.now) result }
+    tokens: &[Token],
+) -> Result<Role, ExprFault>
+    ensures { Gives ExprFault.Memory (shapes.reads (spec.locals at name left locals) tokens.now) result }
 {
-    if turns == 0 {
-        return Err(ExprFault::TooDeep { at: place(tokens) });
+    if left == 0 {
+        return finished(Role::Leaf(Node::Render { at, name, locals }), tokens);
     }
     if !is_mark(Mark::Comma, tokens) {
-        return Ok((locals, tokens));
+        return finished(Role::Leaf(Node::Render { at, name, locals }), tokens);
     }
-    let (local, rest) = local_at(alloc, locals.as_slice(), rest_of(tokens))?;
-    locals.push(local)?;
-    locals_from(alloc, turns - 1, locals, rest)
-}
-
-/// A local that none of the earlier ones has the name of.
-#[tactic(auto, unfolding(crate::specs::Tags::local_at))]
-fn local_at<'a>(
-    alloc: Global,
-    earlier: &[Local],
-    tokens: &'a [Token],
-) -> Result<(Local, &'a [Token]), ExprFault>
-    ensures { ReadsTo (spec.local_at earlier.now tokens.now) result }
-{
-    let (name, rest) = new_name_at(alloc, earlier, tokens)?;
+    let (variable, rest) = new_name_at(alloc, locals.as_slice(), rest_of(tokens))?;
     let rest = mark_at(Mark::Colon, rest)?;
     let (value, rest) = value_at(alloc, rest)?;
-    Ok((Local { name, value }, rest))
-}
-
-fn new_name_at<'a>(
-    alloc: Global,
-    earlier: &[Local],
-    tokens: &'a [Token],
-) -> Result<(Name, &'a [Token]), ExprFault>
-    ensures { ReadsTo (spec.new_name_at earlier.now tokens.now) result }
-{
-    let (name, rest) = name_at(alloc, tokens)?;
-    if has_local(earlier, name.as_bytes()) {
-        return Err(fault_at(None, tokens));
-    }
-    Ok((name, rest))
-}
-
-fn has_local(locals: &[Local], name: &[u8]) -> bool
-    ensures { result ≡ spec.has_local locals.now name.now }
-{
-    locals.iter().any(|local| local.name.as_bytes() == name)
+    locals.push(Local {
+        name: variable,
+        value,
+    })?;
+    locals_from(alloc, at, name, left - 1, locals, rest)
 }
 
 /// A collection, behind the word `partial`.
-#[tactic(auto, unfolding(crate::specs::Tags::collection_of))]
-fn collection_of(alloc: Global, at: u32, tokens: &[Token]) -> Result<Node, ExprFault>
-    ensures { Gives ExprFault.Memory (spec.collection_of at tokens.now) result }
-{
-    let (listed, rest) = list_of(alloc, tokens)?;
-    let (item, rest) = item_at(alloc, rest)?;
-    let (cached, rest) = cached_at(rest)?;
-    if !is_end(rest) {
-        return Err(fault_at(None, rest));
-    }
-    let item = item_of(alloc, listed.at, listed.name.as_bytes(), item)?;
-    Ok(Node::Collection {
-        at,
-        name: listed.name,
-        list: listed.list,
-        item,
-        cached,
-    })
-}
-
-/// What a collection's tag says up to its list.
-#[tactic(auto, unfolding(crate::specs::Tags::list_of))]
-fn list_of(alloc: Global, tokens: &[Token]) -> Result<(Listed, &[Token]), ExprFault>
-    ensures { ReadsTo (spec.list_of tokens.now) result }
+#[tactic(auto, unfolding(crate::specs::Tags::collected, crate::specs::Shapes::reads, crate::specs::Shapes::item_at))]
+fn collected(alloc: Global, at: u32, tokens: &[Token]) -> Result<Role, ExprFault>
+    ensures { Gives ExprFault.Memory (shapes.reads (spec.collected at) tokens.now) result }
 {
     let text = mark_at(Mark::Colon, tokens)?;
     let (name, rest) = partial_at(alloc, text)?;
@@ -138,46 +78,83 @@ fn list_of(alloc: Global, tokens: &[Token]) -> Result<(Listed, &[Token]), ExprFa
     let rest = word_at(Word::Collection, rest)?;
     let rest = mark_at(Mark::Colon, rest)?;
     let (list, rest) = value_at(alloc, rest)?;
-    Ok((
-        Listed {
-            name,
-            at: place(text),
-            list,
-        },
-        rest,
-    ))
+    let listed = Listed {
+        name,
+        at: place(text),
+        list,
+    };
+    options(alloc, at, listed, rest)
 }
 
-/// The name behind `as`, where the tag has one.
-#[tactic(auto, unfolding(crate::specs::Tags::item_at))]
-fn item_at(alloc: Global, tokens: &[Token]) -> Result<(Option<Name>, &[Token]), ExprFault>
-    ensures { ReadsTo (spec.item_at tokens.now) result }
+/// What may stand behind a collection's list: the name of its items, and whether they are kept.
+#[tactic(auto, unfolding(crate::specs::Tags::options, crate::specs::Shapes::reads))]
+fn options(alloc: Global, at: u32, of: Listed, tokens: &[Token]) -> Result<Role, ExprFault>
+    ensures { Gives ExprFault.Memory (shapes.reads (spec.options at of) tokens.now) result }
 {
-    let after = rest_of(tokens);
     if !is_mark(Mark::Comma, tokens) {
-        return Ok((None, tokens));
+        return ended(alloc, at, of, None, false, tokens);
     }
-    if !is_word(Word::As, after) {
-        return Ok((None, tokens));
+    let rest = rest_of(tokens);
+    if is_word(Word::As, rest) {
+        return named_item(alloc, at, of, rest_of(rest));
     }
-    let rest = mark_at(Mark::Colon, rest_of(after))?;
+    cached(alloc, at, of, None, rest)
+}
+
+/// The name of the items, behind the word `as`.
+#[tactic(auto, unfolding(crate::specs::Tags::named_item, crate::specs::Shapes::reads, crate::specs::Shapes::item_at))]
+fn named_item(alloc: Global, at: u32, of: Listed, tokens: &[Token]) -> Result<Role, ExprFault>
+    ensures { Gives ExprFault.Memory (shapes.reads (spec.named_item at of) tokens.now) result }
+{
+    let rest = mark_at(Mark::Colon, tokens)?;
     let rest = mark_at(Mark::Colon, rest)?;
     let (name, rest) = name_at(alloc, rest)?;
-    Ok((Some(name), rest))
+    if is_mark(Mark::Comma, rest) {
+        return cached(alloc, at, of, Some(name), rest_of(rest));
+    }
+    ended(alloc, at, of, Some(name), false, rest)
 }
 
-/// Whether the tag asks for its items to be kept.
-#[tactic(auto, unfolding(crate::specs::Tags::cached_at))]
-fn cached_at(tokens: &[Token]) -> Result<(bool, &[Token]), ExprFault>
-    ensures { GivesExactly (λ x. (x.0, x.1.now)) (spec.cached_at tokens.now) result }
+/// That the items are kept, behind a comma.
+#[tactic(auto, unfolding(crate::specs::Tags::cached, crate::specs::Shapes::reads, crate::specs::Shapes::item_at))]
+fn cached(
+    alloc: Global,
+    at: u32,
+    of: Listed,
+    item: Option<Name>,
+    tokens: &[Token],
+) -> Result<Role, ExprFault>
+    ensures { Gives ExprFault.Memory (shapes.reads (spec.cached at of item) tokens.now) result }
 {
-    if !is_mark(Mark::Comma, tokens) {
-        return Ok((false, tokens));
-    }
-    let rest = word_at(Word::Cached, rest_of(tokens))?;
+    let rest = word_at(Word::Cached, tokens)?;
     let rest = mark_at(Mark::Colon, rest)?;
     let rest = word_at(Word::True, rest)?;
-    Ok((true, rest))
+    ended(alloc, at, of, item, true, rest)
+}
+
+/// The end of a collection's tag.
+#[tactic(auto, unfolding(crate::specs::Tags::collection, crate::specs::Shapes::reads))]
+fn ended(
+    alloc: Global,
+    at: u32,
+    of: Listed,
+    item: Option<Name>,
+    cached: bool,
+    tokens: &[Token],
+) -> Result<Role, ExprFault>
+    ensures { Gives ExprFault.Memory (shapes.reads (shapes.Shape.ends (spec.collection at of item cached)) tokens.now) result }
+{
+    if !is_end(tokens) {
+        return Err(fault_at(None, tokens));
+    }
+    let item = item_of(alloc, of.at, of.name.as_bytes(), item)?;
+    Ok(Role::Leaf(Node::Collection {
+        at,
+        name: of.name,
+        list: of.list,
+        item,
+        cached,
+    }))
 }
 
 /// The item's name: that behind `as`, else the last segment of the partial's, whose text stands at `at`.

@@ -1,20 +1,19 @@
 //! What the content of a tag says.
 
-ghost use Rattle.std.specs.Prelude.{◌≡◌, ◌≤◌, length};
+ghost use Rattle.std.specs.Prelude.{◌≡◌, ◌≤◌, length, Ok};
 ghost use Rattle.doll_text.specs.Gives.{Gives, GivesExactly};
+ghost use Rattle.doll_erb.specs.Partials as partials;
+ghost use Rattle.doll_erb.specs.Shapes as shapes;
 ghost use Rattle.doll_erb.specs.Tags as spec;
 
-use crate::key::key_at;
-use crate::mark::{is_end, mark_at, name_at, word_at};
+use crate::key::cache_of;
+use crate::mark::{is_end, listed_at, mark_at, name_at, value_at, word_at};
 use crate::node::Node;
 use crate::partial::dependency_of;
 use crate::piece::TagKind;
 use crate::render::rendered;
 use crate::role::{Closing, Opening, Role};
-use doll_expr::{
-    ExprFault, Mark, Name, Token, TokenKind, Word, expr_at, fault_at, is_word, rest_of, tokens_of,
-    whole_expr,
-};
+use doll_expr::{ExprFault, Mark, Name, Token, Word, fault_at, is_word, rest_of, tokens_of};
 use std::alloc::Global;
 
 /// What a tag at a place does, by its kind and its content. The places of faults count from the content's first byte.
@@ -31,14 +30,14 @@ pub(crate) fn role_of(
     match kind {
         TagKind::Text => Ok(Role::Nothing),
         TagKind::Comment => comment_of(alloc, at, content),
-        TagKind::Write => written(alloc, at, content),
-        TagKind::Raw => raw(alloc, at, content),
-        TagKind::Run => run(alloc, content),
+        TagKind::Write => write_of(alloc, at, tokens_of(alloc, content)?.as_slice()),
+        TagKind::Raw => raw_of(alloc, at, tokens_of(alloc, content)?.as_slice()),
+        TagKind::Run => run_of(alloc, tokens_of(alloc, content)?.as_slice()),
     }
 }
 
 fn comment_of(alloc: Global, at: u32, content: &[u8]) -> Result<Role, ExprFault>
-    ensures { Gives ExprFault.Memory (spec.comment at content.now) result }
+    ensures { Gives ExprFault.Memory (Ok (spec.comment_by at (partials.dependency_of content.now))) result }
 {
     match dependency_of(content) {
         None => Ok(Role::Nothing),
@@ -49,64 +48,54 @@ fn comment_of(alloc: Global, at: u32, content: &[u8]) -> Result<Role, ExprFault>
     }
 }
 
-fn written(alloc: Global, at: u32, content: &[u8]) -> Result<Role, ExprFault>
-    requires { length content.now ≤ 262144 }
-    ensures { Gives ExprFault.Memory (spec.written at content.now) result }
-{
-    let tokens = tokens_of(alloc, content)?;
-    let node = write_of(alloc, at, tokens.as_slice())?;
-    Ok(Role::Leaf(node))
-}
-
-fn raw(alloc: Global, at: u32, content: &[u8]) -> Result<Role, ExprFault>
-    requires { length content.now ≤ 262144 }
-    ensures { Gives ExprFault.Memory (spec.raw at content.now) result }
-{
-    let tokens = tokens_of(alloc, content)?;
-    let expr = whole_expr(alloc, tokens.as_slice())?;
-    Ok(Role::Leaf(Node::Raw { at, expr }))
-}
-
-fn run(alloc: Global, content: &[u8]) -> Result<Role, ExprFault>
-    requires { length content.now ≤ 262144 }
-    ensures { Gives ExprFault.Memory (spec.run content.now) result }
-{
-    let tokens = tokens_of(alloc, content)?;
-    run_of(alloc, tokens.as_slice())
-}
-
 /// What a tag `<%=` writes: a partial or an expression.
-#[tactic(auto, unfolding(crate::specs::Tags::write_of))]
-fn write_of(alloc: Global, at: u32, tokens: &[Token]) -> Result<Node, ExprFault>
-    ensures { Gives ExprFault.Memory (spec.write_of at tokens.now) result }
+#[tactic(auto, unfolding(crate::specs::Tags::write, crate::specs::Shapes::reads, crate::specs::Shapes::item_at))]
+fn write_of(alloc: Global, at: u32, tokens: &[Token]) -> Result<Role, ExprFault>
+    ensures { Gives ExprFault.Memory (shapes.reads (spec.write at) tokens.now) result }
 {
     if is_word(Word::Render, tokens) {
         return rendered(alloc, at, rest_of(tokens));
     }
-    let expr = whole_expr(alloc, tokens)?;
-    Ok(Node::Write { at, expr })
+    let (expr, rest) = value_at(alloc, tokens)?;
+    finished(Role::Leaf(Node::Write { at, expr }), rest)
+}
+
+/// What a tag `<%==` writes.
+#[tactic(auto, unfolding(crate::specs::Tags::raw, crate::specs::Shapes::reads, crate::specs::Shapes::item_at))]
+fn raw_of(alloc: Global, at: u32, tokens: &[Token]) -> Result<Role, ExprFault>
+    ensures { Gives ExprFault.Memory (shapes.reads (spec.raw at) tokens.now) result }
+{
+    let (expr, rest) = value_at(alloc, tokens)?;
+    finished(Role::Leaf(Node::Raw { at, expr }), rest)
 }
 
 /// A tag that opens, parts or closes a block, by its first token.
-#[tactic(auto, unfolding(crate::specs::Tags::run_of))]
+#[tactic(auto, unfolding(crate::specs::Tags::run, crate::specs::Shapes::reads))]
 fn run_of(alloc: Global, tokens: &[Token]) -> Result<Role, ExprFault>
-    ensures { Gives ExprFault.Memory (spec.run_of tokens.now) result }
+    ensures { Gives ExprFault.Memory (shapes.reads spec.run tokens.now) result }
 {
-    let [token, rest @ ..] = tokens else {
-        return each_of(alloc, tokens);
-    };
-    match &token.kind {
-        TokenKind::Word(Word::If) => Ok(Role::Opens(Opening::If(whole_expr(alloc, rest)?))),
-        TokenKind::Word(Word::Elsif) => Ok(Role::Closes(Closing::Elsif(whole_expr(alloc, rest)?))),
-        TokenKind::Word(Word::Else) => finished(Role::Closes(Closing::Else), rest),
-        TokenKind::Word(Word::End) => finished(Role::Closes(Closing::End), rest),
-        TokenKind::Word(Word::Cache) => cache_of(alloc, rest),
-        _ => each_of(alloc, tokens),
+    if is_word(Word::If, tokens) {
+        return if_of(alloc, rest_of(tokens));
     }
+    if is_word(Word::Elsif, tokens) {
+        return elsif_of(alloc, rest_of(tokens));
+    }
+    if is_word(Word::Else, tokens) {
+        return finished(Role::Closes(Closing::Else), rest_of(tokens));
+    }
+    if is_word(Word::End, tokens) {
+        return finished(Role::Closes(Closing::End), rest_of(tokens));
+    }
+    if is_word(Word::Cache, tokens) {
+        return cache_of(alloc, rest_of(tokens));
+    }
+    each_of(alloc, tokens)
 }
 
-fn finished(role: Role, tokens: &[Token]) -> Result<Role, ExprFault>
-    ensures { GivesExactly (λ x. x) (spec.finished role tokens.now) result }
+/// The end of a tag that comes to this.
+#[tactic(auto, unfolding(crate::specs::Shapes::reads))]
+pub(crate) fn finished(role: Role, tokens: &[Token]) -> Result<Role, ExprFault>
+    ensures { GivesExactly (λ x. x) (shapes.reads (shapes.Shape.ends (Ok role)) tokens.now) result }
 {
     if !is_end(tokens) {
         return Err(fault_at(None, tokens));
@@ -114,36 +103,33 @@ fn finished(role: Role, tokens: &[Token]) -> Result<Role, ExprFault>
     Ok(role)
 }
 
-/// A cached block, behind the word `cache`.
-#[tactic(auto, unfolding(crate::specs::Tags::cache_of))]
-fn cache_of(alloc: Global, tokens: &[Token]) -> Result<Role, ExprFault>
-    ensures { Gives ExprFault.Memory (spec.cache_of tokens.now) result }
+/// The test behind the word `if`.
+#[tactic(auto, unfolding(crate::specs::Shapes::reads, crate::specs::Shapes::item_at))]
+fn if_of(alloc: Global, tokens: &[Token]) -> Result<Role, ExprFault>
+    ensures { Gives ExprFault.Memory (shapes.reads spec.if_test tokens.now) result }
 {
-    let (key, rest) = key_at(alloc, tokens)?;
-    let rest = word_at(Word::Do, rest)?;
-    finished(Role::Opens(Opening::Cache(key)), rest)
+    let (test, rest) = value_at(alloc, tokens)?;
+    finished(Role::Opens(Opening::If(test)), rest)
+}
+
+/// The test behind the word `elsif`.
+#[tactic(auto, unfolding(crate::specs::Shapes::reads, crate::specs::Shapes::item_at))]
+fn elsif_of(alloc: Global, tokens: &[Token]) -> Result<Role, ExprFault>
+    ensures { Gives ExprFault.Memory (shapes.reads spec.elsif_test tokens.now) result }
+{
+    let (test, rest) = value_at(alloc, tokens)?;
+    finished(Role::Closes(Closing::Elsif(test)), rest)
 }
 
 /// A list and the name of its items.
-#[tactic(auto, unfolding(crate::specs::Tags::each_of))]
+#[tactic(auto, unfolding(crate::specs::Tags::each, crate::specs::Shapes::reads, crate::specs::Shapes::item_at))]
 fn each_of(alloc: Global, tokens: &[Token]) -> Result<Role, ExprFault>
-    ensures { Gives ExprFault.Memory (spec.each_of tokens.now) result }
+    ensures { Gives ExprFault.Memory (shapes.reads spec.each tokens.now) result }
 {
-    let (list, rest) = expr_at(alloc, tokens)?;
-    let (name, rest) = item_at(alloc, rest)?;
-    finished(Role::Opens(Opening::Each { list, name }), rest)
-}
-
-/// The name of an item, with all that stands round it behind the list.
-#[tactic(auto, unfolding(crate::specs::Tags::each_item_at))]
-fn item_at(alloc: Global, tokens: &[Token]) -> Result<(Name, &[Token]), ExprFault>
-    ensures { spec.ReadsTo (spec.each_item_at tokens.now) result }
-{
-    let rest = mark_at(Mark::Dot, tokens)?;
-    let rest = word_at(Word::Each, rest)?;
+    let (list, rest) = listed_at(alloc, tokens)?;
     let rest = word_at(Word::Do, rest)?;
     let rest = mark_at(Mark::Bar, rest)?;
     let (name, rest) = name_at(alloc, rest)?;
     let rest = mark_at(Mark::Bar, rest)?;
-    Ok((name, rest))
+    finished(Role::Opens(Opening::Each { list, name }), rest)
 }

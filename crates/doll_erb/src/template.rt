@@ -6,7 +6,7 @@ ghost use Rattle.doll_erb.specs.declared.node.ErbFault.TheVariants.{Memory};
 ghost use Rattle.doll_erb.specs.declared.node.Node.{Node, roll-Node};
 ghost use Rattle.doll_erb.specs.declared.node.Node.TheOpen.{Node-F};
 ghost use Rattle.doll_erb.specs.Grammar.{BeginsWithTag, IsTemplate, OneTree};
-ghost use Rattle.doll_erb.specs.TagGrammar.{TagsAreSentences};
+ghost use Rattle.doll_erb.specs.Tags.{TagsAreSentences};
 ghost use Rattle.doll_erb.specs.Faults.{Faults};
 ghost use Rattle.doll_erb.specs.Trees as spec;
 ghost use Rattle.doll_erb.specs.Trees.{Open};
@@ -80,7 +80,7 @@ pub fn one_tree()
     ensures { OneTree }
 {}
 
-/// What a tag does by the reading from the left is what it does by the grammar of tags, and the other way round.
+/// A tag does what it does by the grammar of tags, and its fault is that of the first token with which no sentence goes on.
 pub fn tags_are_sentences()
     ensures { TagsAreSentences }
 {}

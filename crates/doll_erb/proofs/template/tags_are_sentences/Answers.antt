@@ -1,4 +1,4 @@
-use Rattle.doll_erb.proofs.TagOnly as law
+use Rattle.doll_erb.proofs.Tags as law
 use Rattle.doll_erb.proofs.template.tags_are_sentences.Goals as goal
 
 pub returns : goal.returns
