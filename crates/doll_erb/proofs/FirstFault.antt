@@ -24,6 +24,7 @@ use Rattle.doll_erb.specs.Faults.{OpenBlock, open_block, Blocks, is_if, after_ro
 use Rattle.doll_text.specs.Gives.{Gives}
 use Rattle.doll_erb.proofs.Blocks.{content_front, front_len_yes, front_rest_yes, front_rest_no, rest_ends, no_more, tag_step}
 use Rattle.doll_erb.proofs.GrammarSteps.{block_step}
+use Rattle.doll_erb.proofs.TagFaults.{by_grammar}
 
 -- ---- texts change no blocks
 
@@ -323,7 +324,9 @@ text_agrees text = pieces_agree text (cut_of text)
 -- what is answered, by what the text is
 by_tree : (text : List ℕ) (tree r : Result (List Node) ErbFault) → Agrees tree (first_fault text) → Gives Memory tree r → Faults text r
 by_tree text tree (Ok nodes) agrees given = subst (λ (t : Result (List Node) ErbFault). Agrees t (first_fault text)) given agrees
-by_tree text tree (Err fault) agrees given = λ unlike. subst (λ (t : Result (List Node) ErbFault). Agrees t (first_fault text)) (given unlike) agrees
+by_tree text tree (Err fault) agrees given = λ unlike.
+    let is : first_fault text ≡ Some fault = subst (λ (t : Result (List Node) ErbFault). Agrees t (first_fault text)) (given unlike) agrees in
+    (is, by_grammar text fault is)
 
 pub template_faults : (text : List ℕ) (r : Result (List Node) ErbFault) → Gives Memory (tree_of text) r → Faults text r
 template_faults text r given = by_tree text (tree_of text) r (text_agrees text) given

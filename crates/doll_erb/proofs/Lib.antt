@@ -10,4 +10,5 @@ pub mod GrammarSteps
 pub mod GrammarOnly
 pub mod GrammarFound
 pub mod GrammarClauses
+pub mod TagFaults
 pub mod FirstFault

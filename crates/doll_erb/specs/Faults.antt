@@ -1,8 +1,8 @@
 -- The first fault of a template, by the blocks that its tags open and close; no tree is made (this project's own, after ERB).
-use Rattle.std.specs.Prelude.{ℕ, ◌≡◌, Bool, true, false, nat_lt, List, [], ◌∷◌, length, Option, None, Some, Result, Ok, Err, MatchResult, if◌then◌else◌}
+use Rattle.std.specs.Prelude.{ℕ, ◌≡◌, Bool, true, false, nat_lt, List, [], ◌∷◌, ◌++◌, ⊤, length, Option, None, Some, Result, Ok, Err, MatchResult, if◌then◌else◌}
 use Rattle.doll_erb.specs.declared.node.Node.{Node}
 use Rattle.doll_erb.specs.declared.node.ErbFault.{ErbFault}
-use Rattle.doll_erb.specs.declared.node.ErbFault.TheVariants.{StrayEnd, MissingEnd, TooDeep, Memory}
+use Rattle.doll_erb.specs.declared.node.ErbFault.TheVariants.{StrayEnd, MissingEnd, TooDeep, BadExpr, Memory}
 use Rattle.doll_erb.specs.declared.role.Role.{Role}
 use Rattle.doll_erb.specs.declared.role.Role.TheVariants as role
 use Rattle.doll_erb.specs.declared.role.Opening.{Opening}
@@ -11,7 +11,9 @@ use Rattle.doll_erb.specs.declared.role.Closing.{Closing}
 use Rattle.doll_erb.specs.declared.role.Closing.TheVariants as closing
 use Rattle.doll_erb.specs.declared.piece.Tag.{Tag}
 use Rattle.doll_erb.specs.Cuts.{cut_of}
-use Rattle.doll_erb.specs.Trees.{and_then, role_in}
+use Rattle.doll_expr.specs.declared.expr.ExprFault.{ExprFault}
+use Rattle.doll_erb.specs.Tags.{IsTagFault}
+use Rattle.doll_erb.specs.Trees.{and_then, content_of, role_in}
 
 -- An open block: the place of its tag, and whether a further part may begin in it, as in an `if` without an `else` so far.
 pub record OpenBlock : Type 0 where
@@ -85,6 +87,26 @@ fault_in text (Ok pieces) = fault_at_end (after_pieces text [] pieces)
 unfoldable pub first_fault : List ℕ → Option ErbFault
 first_fault text = fault_in text (cut_of text)
 
+-- The first fault stands in a tag: no piece before has one, and this is the content's fault by the grammar of tags.
+pub record IsWithinTag (text : List ℕ) (at : ℕ) (fault : ExprFault) : Type 0 where
+  pub before : List Tag
+  pub piece : Tag
+  pub after : List Tag
+  pub blocks : List OpenBlock
+  pub is_cut : cut_of text ≡ Ok (before ++ piece ∷ after)
+  pub passed : after_pieces text [] before ≡ Ok blocks
+  pub place : at ≡ piece.span.from
+  pub is : IsTagFault piece.span.from piece.kind (content_of text piece) fault
+
+-- a fault in a tag is one by the grammar of tags
+abbrev pub IsByGrammar : List ℕ → ErbFault → Type 0
+IsByGrammar text (BadExpr at fault) = IsWithinTag text at fault
+IsByGrammar text fault = ⊤
+
+-- the first fault by the grammar of blocks, and within a tag by that of tags
+abbrev pub IsFirst : List ℕ → ErbFault → Type 0
+IsFirst text fault = (first_fault text ≡ Some fault) × IsByGrammar text fault
+
 -- What is accepted has no fault, and a refusal for another cause than memory is the first fault.
 abbrev pub Faults : List ℕ → Result (List Node) ErbFault → Type 0
-Faults text result = MatchResult result (λ tree. first_fault text ≡ None) (λ fault. (fault ≡ Memory → ⊥) → first_fault text ≡ Some fault)
+Faults text result = MatchResult result (λ tree. first_fault text ≡ None) (λ fault. (fault ≡ Memory → ⊥) → IsFirst text fault)
