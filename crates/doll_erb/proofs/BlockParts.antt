@@ -1,6 +1,6 @@
 -- Blocks by their parts.
 use Rattle.std.proofs.lemmas.List.{append-nil}
-use Rattle.std.proofs.Common.{◌≡◌, ◌≤◌, ℕ, zero, suc, ◌+◌, ◌-◌, List, [], ◌∷◌, ◌++◌, length, Option, None, Some, Result, Ok, Err, refl, ap, sym, ◌∙◌, arith, append_assoc}
+use Rattle.std.proofs.Common.{◌≡◌, ◌≤◌, ℕ, zero, suc, ◌+◌, ◌-◌, List, [], ◌∷◌, ◌++◌, Option, Some, Result, Ok, Err, refl, ap, sym, ◌∙◌, arith, append_assoc}
 use Rattle.doll_expr.specs.declared.expr.Expr.{Expr}
 use Rattle.doll_erb.specs.declared.node.Node.{Node, roll-Node}
 use Rattle.doll_erb.specs.declared.node.Node.TheOpen.{Node-F}
@@ -15,7 +15,7 @@ use Rattle.doll_erb.specs.declared.role.Closing.{Closing}
 use Rattle.doll_erb.specs.declared.role.Closing.TheVariants as closing
 use Rattle.doll_erb.specs.declared.role.Role.{Role}
 use Rattle.doll_erb.specs.declared.role.Role.TheVariants as role
-use Rattle.doll_erb.specs.Trees.{Content, Open, Read, Inward, and_then, before, arm, ended, from_arm, from_last, opened_by, number_in, if_node, node_of, place_of, role_in, by_role, block_of, content_from}
+use Rattle.doll_erb.specs.Trees.{Content, Open, Read, Inward, and_then, before, arm, ended, from_arm, from_last, opened_by, number_in, if_node, node_of, role_in, by_role, block_of, content_from}
 use Rattle.doll_erb.specs.Parts.{IsRest, from_tag, from_closing, block_read, body_read, if_read}
 use Rattle.doll_erb.proofs.Blocks.{made}
 

@@ -1,5 +1,5 @@
 -- What of expressions the laws of tags rest on: where a sentence ends, which tokens stand in it, and its first fault.
-use Rattle.std.proofs.Common.{◌≡◌, ◌≤◌, ℕ, ◌+◌, ◌*◌, Bool, true, false, cond, ◌&&◌, List, [], ◌∷◌, ◌++◌, length, drop, None, Result, Ok, Err, refl, sym, ap, subst, ◌∙◌, inl, inr, ◌⊎◌, append_assoc, arith, eqb}
+use Rattle.std.proofs.Common.{◌≡◌, ◌≤◌, ℕ, ◌+◌, ◌*◌, Bool, true, false, cond, List, [], ◌∷◌, ◌++◌, length, drop, None, Ok, Err, refl, sym, ap, subst, ◌∙◌, inl, inr, ◌⊎◌, append_assoc, arith}
 use Rattle.std.proofs.lemmas.List.{length-append}
 use Rattle.doll_expr.specs.declared.expr.Expr.{Expr}
 use Rattle.doll_expr.specs.declared.expr.Expr.TheVariants as e
@@ -13,8 +13,8 @@ use Rattle.doll_expr.specs.declared.token.Token.{Token}
 use Rattle.doll_expr.specs.declared.token.TokenKind.{TokenKind}
 use Rattle.doll_expr.specs.declared.token.TokenKind.TheVariants as kind
 use Rattle.doll_expr.specs.Tokens.{token, is_dot, is_mark}
-use Rattle.doll_expr.specs.Grammar.{Rule, expr, and, eq, cmp, sum, prod, unary, postfix, atom, Sentence, is_each, ends_before, ends_expr, mark_at, word_at, expr_one, expr_or, and_one, and_and, eq_one, eq_equal, eq_not_equal, cmp_one, cmp_less, cmp_less_or_equal, cmp_greater, cmp_greater_or_equal, sum_one, sum_plus, sum_minus, prod_one, prod_times, unary_one, unary_not, unary_minus, postfix_one, postfix_name, postfix_id, postfix_updated_at, postfix_size, postfix_ask, atom_number, atom_text, atom_nil, atom_true, atom_false, atom_name, atom_parentheses}
-use Rattle.doll_expr.specs.Reading.{◌>>=◌, first_kind, has_step, stops_at, level_at, enough_fuel, expr_at, whole_of, is_end}
+use Rattle.doll_expr.specs.Grammar.{Rule, expr, and, eq, cmp, sum, prod, unary, postfix, atom, Sentence, ends_before, ends_expr, mark_at, word_at, expr_one, expr_or, and_one, and_and, eq_one, eq_equal, eq_not_equal, cmp_one, cmp_less, cmp_less_or_equal, cmp_greater, cmp_greater_or_equal, sum_one, sum_plus, sum_minus, prod_one, prod_times, unary_one, unary_not, unary_minus, postfix_one, postfix_name, postfix_id, postfix_updated_at, postfix_size, postfix_ask, atom_number, atom_text, atom_nil, atom_true, atom_false, atom_name, atom_parentheses}
+use Rattle.doll_expr.specs.Reading.{first_kind, has_step, stops_at, level_at, enough_fuel, expr_at, whole_of, is_end}
 use Rattle.doll_expr.specs.Faults as faults
 use Rattle.doll_expr.proofs.Rules.{bind_ok, chosen, ok_is}
 use Rattle.doll_expr.proofs.Fuel.{Alike}

@@ -8,9 +8,6 @@ use Rattle.std.proofs.Common.{◌≡◌, ◌≤◌, ℕ, zero, suc, ◌+◌, ◌
 use Rattle.doll_expr.specs.declared.expr.Expr.{Expr}
 use Rattle.doll_expr.specs.declared.expr.ExprFault.{ExprFault}
 use Rattle.doll_expr.specs.declared.token.Token.{Token}
-use Rattle.doll_expr.specs.declared.token.TokenKind.{TokenKind}
-use Rattle.doll_expr.specs.declared.token.TokenKind.TheVariants as kind
-use Rattle.doll_text.specs.declared.words.Word.TheVariants as word
 use Rattle.doll_expr.specs.Reading.{◌>>=◌, first_kind, fault_at, is_end}
 use Rattle.doll_expr.specs.Tokens.{tokens_of}
 use Rattle.doll_erb.specs.declared.node.Node.{Node, roll-Node}
@@ -97,9 +94,13 @@ cached_says at of item = λ x y z. collection_says at of item true
 
 write_says : (at : ℕ) → Speaks (write at)
 unfolding write rendered collected options named_item
-write_says at =
-    (((λ x name y z w list. (((λ u v item. (cached_says at _ (Some item), collection_says at _ (Some item) false)), cached_says at _ None), collection_says at _ None false)),
-    λ name. locals_say at name.0 64 []), λ a. refl)
+write_says at = (
+  (
+    (λ x name y z w list. (((λ u v item. (cached_says at _ (Some item), collection_says at _ (Some item) false)), cached_says at _ None), collection_says at _ None false)),
+    λ name. locals_say at name.0 64 [],
+  ),
+  λ a. refl,
+)
 
 raw_says : (at : ℕ) → Speaks (raw at)
 unfolding raw

@@ -1,6 +1,6 @@
 -- The laws of items: what is read stands there, what stands there is read, and the first fault.
 use denote.Enum.Bare.{same_true, true_same}
-use Rattle.std.proofs.Common.{◌≡◌, ◌<◌, ◌≤◌, ℕ, zero, suc, ◌+◌, Bool, true, false, cond, ◌==◌, List, [], ◌∷◌, ◌++◌, length, drop, None, Result, Ok, Err, refl, sym, ap, subst, ◌∙◌, inl, inr, ◌⊎◌, append_assoc, bytes_eq, arith}
+use Rattle.std.proofs.Common.{◌≡◌, ◌≤◌, ℕ, ◌+◌, Bool, true, false, cond, ◌==◌, List, [], ◌∷◌, ◌++◌, length, drop, None, Result, Ok, Err, refl, sym, ap, subst, ◌∙◌, inl, inr, ◌⊎◌, append_assoc, bytes_eq, arith}
 use Rattle.std.proofs.lemmas.Bool.{cases_Bool}
 use Rattle.std.proofs.lemmas.List.{length-append, append-nil, append_cancel_right}
 use Rattle.std.proofs.lemmas.Bool.Decides.{Decides-eqb}
@@ -17,8 +17,8 @@ use Rattle.doll_text.specs.declared.words.Word.TheVariants as word
 use Rattle.doll_expr.specs.declared.token.Token.{Token}
 use Rattle.doll_expr.specs.declared.token.TokenKind.{TokenKind}
 use Rattle.doll_expr.specs.declared.token.TokenKind.TheVariants as kind
-use Rattle.doll_expr.specs.Tokens.{token, is_dot, is_last, is_mark, is_word}
-use Rattle.doll_expr.specs.Grammar.{expr, Sentence, is_each, mark_at, word_at}
+use Rattle.doll_expr.specs.Tokens.{token, is_last, is_mark, is_word}
+use Rattle.doll_expr.specs.Grammar.{expr, Sentence, mark_at, word_at}
 use Rattle.doll_expr.specs.Reading.{◌>>=◌, first_kind, place, fault_at, expr_at, has_step, is_end}
 use Rattle.doll_expr.specs.Faults.{opened_by, opened_after, fault_behind}
 use Rattle.doll_expr.proofs.Rules.{first_is, bind_ok, chosen, ok_is}
@@ -33,7 +33,7 @@ use Rattle.doll_erb.specs.declared.node.KeyPart.{KeyPart}
 use Rattle.doll_erb.specs.declared.node.KeyPart.TheVariants as part
 use Rattle.doll_erb.specs.Partials.{is_partial}
 use Rattle.doll_erb.specs.Shapes.{Fixed, the_mark, the_word, fixed_kind, is_fixed, Item, Said, Stands, has_local, IsTextAlone, IsPart, part_path, part_symbol, part_text, expected, after_mark, after_word, named, called, value_at, listed_at, path_at, symbol_at, text_at, part_by, item_at}
-use Rattle.doll_erb.proofs.Expressions.{split, end, EndsValue, ends_or, ends_same, apart, alike_first, same_sentence, value_only, expr_fault, value_fault, Value, value_found, is_own, AreOwn, expr_first, alone, nil}
+use Rattle.doll_erb.proofs.Expressions.{split, end, EndsValue, ends_or, ends_same, apart, alike_first, same_sentence, value_only, expr_fault, value_fault, value_found, is_own, expr_first, alone, nil}
 
 -- ---- what the laws say
 
@@ -233,11 +233,15 @@ partial_taken ts x h =
     let c = called_found (first_kind ts) ts b.0 b.1 in
     subst (Taken Item.partial ts) (ok_is ((b.0.0, place ts), b.0.1) x b.2)
     (single_taken Item.partial ts ((b.0.0, place ts), b.0.1) (token (kind.Text b.0.0) (place ts)) (first_is ts (kind.Text b.0.0) c.0 refl ∙ ap (λ (us : List Token). token (kind.Text b.0.0) (place ts) ∷ us) c.2) refl (λ places. refl)
-    (refl, c.1) (λ us y s. (token (kind.Text y.0) y.1, s.0, λ same.
-        let k : kind.Text y.0 ≡ kind.Text b.0.0 = ap (λ (t : Token). t.kind) same in
-        let text : y.0 ≡ b.0.0 = cc k in
-        let at : y.1 ≡ place ts = ap (λ (t : Token). t.at) same in
-        ap (λ (z : List ℕ). (z, y.1)) text ∙ ap (λ (n : ℕ). (b.0.0, n)) at)))
+    (refl, c.1) (λ us y s. (
+      token (kind.Text y.0) y.1,
+      s.0,
+      λ same.
+          let k : kind.Text y.0 ≡ kind.Text b.0.0 = ap (λ (t : Token). t.kind) same in
+          let text : y.0 ≡ b.0.0 = cc k in
+          let at : y.1 ≡ place ts = ap (λ (t : Token). t.at) same in
+          ap (λ (z : List ℕ). (z, y.1)) text ∙ ap (λ (n : ℕ). (b.0.0, n)) at,
+    )))
 
 partial_stuck : (ts : List Token) (g : ExprFault) → Ended ts → item_at Item.partial ts ≡ Err g → Stuck Item.partial ts g
 unfolding item_at
@@ -375,7 +379,7 @@ listed_taken ts x h =
           let whole : s.0 ++ (mark_at mark.Dot s.1 ∷ word_at word.Each s.2 ∷ vs) ≡ found.used ++ (mark_at mark.Dot l.dot ∷ word_at word.Each l.each ∷ rest) =
           sym (ap (λ (ws : List Token). ws ++ vs) s.3 ∙ append_assoc s.0 (mark_at mark.Dot s.1 ∷ word_at word.Each s.2 ∷ []) vs) ∙ same ∙ append_assoc found.used tail rest in
           let both = same_sentence ts l.list s.0 (mark_at mark.Dot s.1 ∷ word_at word.Each s.2 ∷ vs) (mark_at mark.Dot l.dot ∷ word_at word.Each l.each ∷ rest) y l.reads
-              (alike_each l.list.1 l.dot l.each x.1 rest l.tail) s.4 (refl, (refl, (refl, (refl, (refl, (refl, refl)))))) whole in
+          (alike_each l.list.1 l.dot l.each x.1 rest l.tail) s.4 (refl, (refl, (refl, (refl, (refl, (refl, refl)))))) whole in
           (both.0 ∙ l.same, ap (λ (ws : List Token). drop 1 (drop 1 ws)) both.1);
     }
 

@@ -1,21 +1,19 @@
 -- The laws of shapes: what is read is a sentence or has the first fault, and a sentence is read.
-use Rattle.std.proofs.Common.{◌≡◌, ◌≤◌, ℕ, ◌+◌, Bool, true, false, cond, List, [], ◌∷◌, ◌++◌, length, drop, None, Result, Ok, Err, refl, sym, ap, subst, ◌∙◌, inl, inr, ◌⊎◌, append_assoc, arith}
-use Rattle.std.proofs.lemmas.Bool.{cases_Bool}
-use Rattle.std.proofs.lemmas.List.{length-append, append-nil}
+use Rattle.std.proofs.Common.{◌≡◌, ◌≤◌, ℕ, Bool, true, false, cond, List, [], ◌∷◌, ◌++◌, length, drop, None, Result, Ok, Err, refl, sym, ap, subst, ◌∙◌, inl, inr, ◌⊎◌, append_assoc, arith}
+use Rattle.std.proofs.lemmas.List.{length-append}
 use Rattle.doll_expr.specs.declared.expr.ExprFault.{ExprFault}
 use Rattle.doll_expr.specs.declared.token.Token.{Token}
 use Rattle.doll_expr.specs.declared.token.TokenKind.{TokenKind}
-use Rattle.doll_expr.specs.declared.token.TokenKind.TheVariants as kind
-use Rattle.doll_expr.specs.Tokens.{token, is_last, is_mark}
+use Rattle.doll_expr.specs.Tokens.{token, is_last}
 use Rattle.doll_expr.specs.Reading.{◌>>=◌, first_kind, place, fault_at, is_end}
-use Rattle.doll_expr.specs.Faults.{opened_by, opened_after, fault_behind}
+use Rattle.doll_expr.specs.Faults.{opened_after, fault_behind}
 use Rattle.doll_expr.proofs.Rules.{end_is}
 use Rattle.doll_expr.proofs.Shapes.{after_append}
-use Rattle.doll_expr.proofs.Ended.{Ended, ended_rest, ended_behind, some_left, last_left}
+use Rattle.doll_expr.proofs.Ended.{Ended, ended_rest, ended_behind, some_left}
 use Rattle.doll_expr.proofs.Stuck.{agrees_at}
-use Rattle.doll_erb.specs.Shapes.{Fixed, fixed_kind, is_fixed, Item, Said, Front, Stands, item_at, Shape, Says, reads, HasTokens, IsFirstFault, ComesToFault}
+use Rattle.doll_erb.specs.Shapes.{Fixed, fixed_kind, is_fixed, Item, Said, Front, Stands, item_at, Shape, Says, reads, HasTokens}
 use Rattle.doll_erb.proofs.Expressions.{end, EndsValue}
-use Rattle.doll_erb.proofs.Items.{Follows, IsEven, Fits, fixed_is, fixed_self, fixed_first, fixed_plain, first_same, item_taken, item_stuck, item_only, some_item, Opens, item_begins}
+use Rattle.doll_erb.proofs.Items.{Follows, IsEven, Fits, fixed_self, fixed_first, fixed_plain, first_same, item_taken, item_stuck, item_only, some_item, Opens, item_begins}
 
 -- ---- which shapes are told apart by their next token
 

@@ -1,13 +1,12 @@
 -- A fault within a tag is one by the grammar of tags.
-use Rattle.std.proofs.Common.{◌≡◌, ℕ, zero, suc, ◌+◌, ◌-◌, Bool, true, false, cond, List, [], ◌∷◌, ◌++◌, take, drop, Option, None, Some, Result, Ok, Err, refl, sym, ap, subst, ◌∙◌, append_assoc, nat_lt, length, ◌==◌}
+use Rattle.std.proofs.Common.{◌≡◌, ℕ, zero, suc, ◌+◌, Bool, true, false, cond, List, [], ◌∷◌, ◌++◌, take, drop, Option, None, Some, Result, Ok, Err, refl, sym, ap, subst, ◌∙◌, append_assoc, nat_lt, length, ◌==◌}
 use Rattle.std.specs.Prelude.{slice_index}
 use Rattle.doll_expr.specs.declared.expr.ExprFault.{ExprFault}
 use Rattle.doll_erb.specs.declared.node.ErbFault.{ErbFault}
-use Rattle.doll_erb.specs.declared.node.ErbFault.TheVariants.{BadExpr, UnclosedTag, UnknownTag, StrayEnd, TooDeep}
+use Rattle.doll_erb.specs.declared.node.ErbFault.TheVariants.{BadExpr, UnknownTag, StrayEnd, TooDeep}
 use Rattle.doll_erb.specs.declared.piece.Tag.{Tag}
 use Rattle.doll_erb.specs.declared.role.Role.{Role}
 use Rattle.doll_erb.specs.declared.role.Role.TheVariants as role
-use Rattle.doll_erb.specs.declared.role.Closing.{Closing}
 use Rattle.doll_erb.specs.declared.role.Closing.TheVariants as closing
 use Rattle.doll_erb.specs.Pieces.{place_of, text_piece, tag_piece, closed_tag, opened_piece, piece_before, piece_at}
 use Rattle.doll_erb.specs.Cuts as cuts

@@ -1,5 +1,5 @@
 -- Each tag's shape is told apart by its next token, so its tokens are read as the grammar says.
-use Rattle.std.proofs.Common.{◌≡◌, ◌≤◌, ℕ, zero, suc, false, List, [], ◌∷◌, ◌++◌, length, Option, None, Some, Result, Ok, Err, refl, sym, ap, subst, ◌∙◌, inl, inr, ◌⊎◌, append_assoc, arith}
+use Rattle.std.proofs.Common.{◌≡◌, ℕ, zero, suc, false, List, [], ◌∷◌, ◌++◌, length, Option, None, Some, Result, Ok, Err, refl, sym, ap, subst, ◌∙◌, inl, inr, append_assoc, arith}
 use Rattle.std.proofs.lemmas.List.{length-append}
 use Rattle.doll_expr.specs.declared.expr.ExprFault.{ExprFault}
 use Rattle.doll_expr.specs.declared.token.Mark.TheVariants as mark
@@ -17,7 +17,7 @@ use Rattle.doll_erb.specs.declared.role.Role.{Role}
 use Rattle.doll_erb.specs.declared.render.Listed.{Listed}
 use Rattle.doll_erb.specs.declared.piece.TagKind.{TagKind}
 use Rattle.doll_erb.specs.declared.piece.TagKind.TheVariants as tag
-use Rattle.doll_erb.specs.Shapes.{the_mark, the_word, is_fixed, Shape, Says, reads, HasTokens, IsFirstFault, ComesToFault}
+use Rattle.doll_erb.specs.Shapes.{the_mark, the_word, is_fixed, Shape, Says, reads, IsFirstFault}
 use Rattle.doll_erb.specs.Tags.{keyed, closed, parts, cache, each, run, locals, cached, named_item, options, collected, rendered, write, raw, role_of, ComesTo, IsTag, HasFault, IsTagFault, TagsAreSentences}
 use Rattle.doll_erb.proofs.Expressions.{end, EndsValue}
 use Rattle.doll_erb.proofs.Items.{own_fixed}
@@ -36,9 +36,10 @@ closed_sound key = ((λ places at. refl, λ x. (tt, (keyed_sound key).0)), (λ a
 parts_sound : (n : ℕ) (key : List KeyPart) → Sound (parts n key) × Starts EndsValue (parts n key)
 unfolding parts
 parts_sound zero key = ((closed_sound key).0, (closed_sound key).1)
-parts_sound (suc n) key =
-    (((λ places at. refl), (tt, λ a. ((parts_sound n (key ++ a ∷ [])).1, (parts_sound n (key ++ a ∷ [])).0)), (closed_sound key).0, (closed_sound key).2),
-    ((λ at ts. (refl, refl)), (closed_sound key).1))
+parts_sound (suc n) key = (
+  ((λ places at. refl), (tt, λ a. ((parts_sound n (key ++ a ∷ [])).1, (parts_sound n (key ++ a ∷ [])).0)), (closed_sound key).0, (closed_sound key).2),
+  ((λ at ts. (refl, refl)), (closed_sound key).1),
+)
 
 cache_sound : Sound cache
 unfolding cache
@@ -51,25 +52,37 @@ each_sound = (tt, λ list. (tt, ((λ places at. refl), λ x. (tt, ((λ places at
 
 run_sound : Sound run
 unfolding run each
-run_sound =
-    ((λ places at. refl), (tt, λ a. ((λ last. (refl, refl)), tt)),
-    ((λ places at. refl), (tt, λ a. ((λ last. (refl, refl)), tt)),
-    ((λ places at. refl), tt,
-    ((λ places at. refl), tt,
-    ((λ places at. refl), cache_sound, each_sound, λ t ts own. own_fixed (the_word word.Cache) t.kind own refl),
-    ((λ at ts. refl), λ t ts own. own_fixed (the_word word.End) t.kind own refl)),
-    ((λ at ts. refl), ((λ at ts. refl), λ t ts own. own_fixed (the_word word.Else) t.kind own refl))),
-    ((λ at ts. refl), ((λ at ts. refl), ((λ at ts. refl), λ t ts own. own_fixed (the_word word.Elsif) t.kind own refl)))),
-    ((λ at ts. refl), ((λ at ts. refl), ((λ at ts. refl), ((λ at ts. refl), λ t ts own. own_fixed (the_word word.If) t.kind own refl)))))
+run_sound = (
+  (λ places at. refl),
+  (tt, λ a. ((λ last. (refl, refl)), tt)),
+  (
+    (λ places at. refl),
+    (tt, λ a. ((λ last. (refl, refl)), tt)),
+    (
+      (λ places at. refl),
+      tt,
+      (
+        (λ places at. refl),
+        tt,
+        ((λ places at. refl), cache_sound, each_sound, λ t ts own. own_fixed (the_word word.Cache) t.kind own refl),
+        ((λ at ts. refl), λ t ts own. own_fixed (the_word word.End) t.kind own refl),
+      ),
+      ((λ at ts. refl), ((λ at ts. refl), λ t ts own. own_fixed (the_word word.Else) t.kind own refl)),
+    ),
+    ((λ at ts. refl), ((λ at ts. refl), ((λ at ts. refl), λ t ts own. own_fixed (the_word word.Elsif) t.kind own refl))),
+  ),
+  ((λ at ts. refl), ((λ at ts. refl), ((λ at ts. refl), ((λ at ts. refl), λ t ts own. own_fixed (the_word word.If) t.kind own refl)))),
+)
 
 -- ---- what is written
 
 locals_sound : (at : ℕ) (name : List ℕ) (n : ℕ) (before : List Local) → Sound (locals at name n before) × Starts EndsValue (locals at name n before)
 unfolding locals
 locals_sound at name zero before = (tt, λ last. (refl, refl))
-locals_sound at name (suc n) before =
-    (((λ places place. refl), (tt, λ variable. (tt, ((λ places place. refl), λ x. (tt, (tt, λ a. ((locals_sound at name n _).1, (locals_sound at name n _).0)))))), tt, λ last. refl),
-    ((λ place ts. (refl, refl)), λ last. (refl, refl)))
+locals_sound at name (suc n) before = (
+  ((λ places place. refl), (tt, λ variable. (tt, ((λ places place. refl), λ x. (tt, (tt, λ a. ((locals_sound at name n _).1, (locals_sound at name n _).0)))))), tt, λ last. refl),
+  ((λ place ts. (refl, refl)), λ last. (refl, refl)),
+)
 
 cached_sound : (at : ℕ) (of : Listed) (item : Option (List ℕ)) → Sound (cached at of item)
 unfolding cached
@@ -82,15 +95,44 @@ named_item_sound at of =
 
 options_sound : (at : ℕ) (of : Listed) → Sound (options at of) × Starts EndsValue (options at of)
 unfolding options cached
-options_sound at of =
-    (((λ places place. refl), ((λ places place. refl), named_item_sound at of, cached_sound at of None, λ place ts. refl), tt, λ last. refl),
-    ((λ place ts. (refl, refl)), λ last. (refl, refl)))
+options_sound at of = (
+  ((λ places place. refl), ((λ places place. refl), named_item_sound at of, cached_sound at of None, λ place ts. refl), tt, λ last. refl),
+  ((λ place ts. (refl, refl)), λ last. (refl, refl)),
+)
 
 collected_sound : (at : ℕ) → Sound (collected at)
 unfolding collected
-collected_sound at =
-    ((λ places place. refl), λ x. (tt, (tt, λ name. (tt, ((λ places place. refl), λ y. (tt, ((λ places place. refl), λ z. (tt, ((λ places place. refl), λ w. (tt,
-    (tt, λ list. ((options_sound at _).1, (options_sound at _).0))))))))))))
+collected_sound at = (
+  (λ places place. refl),
+  λ x. (
+    tt,
+    (
+      tt,
+      λ name. (
+        tt,
+        (
+          (λ places place. refl),
+          λ y. (
+            tt,
+            (
+              (λ places place. refl),
+              λ z. (
+                tt,
+                (
+                  (λ places place. refl),
+                  λ w. (
+                    tt,
+                    (tt, λ list. ((options_sound at _).1, (options_sound at _).0)),
+                  ),
+                ),
+              ),
+            ),
+          ),
+        ),
+      ),
+    ),
+  ),
+)
 
 no_word : (t : Token) (name : List ℕ) → t.kind ≡ kind.Text name → is_fixed (the_word word.Partial) t.kind ≡ false
 no_word t name is = ap (is_fixed (the_word word.Partial)) is

@@ -1,5 +1,5 @@
 -- Shapes: what the tokens of a tag may be, as data; with their reading from the left, their sentences and the law of the first fault (this project's own).
-use Rattle.std.specs.Prelude.{ℕ, ◌≡◌, ◌+◌, ◌==◌, ⊤, Bool, true, false, length, List, [], ◌∷◌, ◌++◌, drop, bytes_eq, Option, None, Some, Result, Ok, Err, ◌⊎◌, if◌then◌else◌}
+use Rattle.std.specs.Prelude.{ℕ, ◌≡◌, ◌+◌, ◌==◌, ⊤, Bool, true, false, length, List, [], ◌∷◌, ◌++◌, drop, bytes_eq, None, Result, Ok, Err, ◌⊎◌, if◌then◌else◌}
 use Rattle.std.specs.List.{list_any}
 use Rattle.doll_expr.specs.declared.expr.Expr.{Expr}
 use Rattle.doll_expr.specs.declared.expr.ExprFault.{ExprFault}
@@ -12,7 +12,7 @@ use Rattle.doll_expr.specs.declared.token.TokenKind.{TokenKind}
 use Rattle.doll_expr.specs.declared.token.TokenKind.TheVariants as kind
 use Rattle.doll_expr.specs.Tokens.{is_mark, is_word, token}
 use Rattle.doll_expr.specs.Grammar.{expr, Sentence, mark_at, word_at}
-use Rattle.doll_expr.specs.Reading.{◌>>=◌, first_kind, place, fault_at, stops_at, expr_at, is_end, if_some}
+use Rattle.doll_expr.specs.Reading.{◌>>=◌, first_kind, place, fault_at, stops_at, expr_at, is_end}
 use Rattle.doll_expr.specs.Faults.{opened_after, fault_behind}
 use Rattle.doll_erb.specs.declared.node.Local.{Local}
 use Rattle.doll_erb.specs.declared.node.KeyPart.{KeyPart}

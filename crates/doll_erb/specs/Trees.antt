@@ -1,5 +1,5 @@
 -- The tree of a template: the grammar of blocks over its pieces, with the first fault (this project's own, after ERB).
-use Rattle.std.specs.Prelude.{ℕ, zero, suc, ◌+◌, ◌-◌, Bool, true, false, not, List, [], ◌∷◌, ◌++◌, length, take, drop, is_some, Option, None, Some, Result, Ok, Err, if◌then◌else◌}
+use Rattle.std.specs.Prelude.{ℕ, zero, suc, ◌+◌, ◌-◌, Bool, true, false, not, List, [], ◌∷◌, ◌++◌, length, take, drop, is_some, Result, Ok, Err, if◌then◌else◌}
 use Rattle.std.specs.List.{flat_map, prefix_len}
 use Rattle.doll_expr.specs.declared.expr.Expr.{Expr}
 use Rattle.doll_expr.specs.declared.expr.ExprFault.{ExprFault}
@@ -8,7 +8,6 @@ use Rattle.doll_erb.specs.declared.node.Node.TheOpen.{Node-F}
 use Rattle.doll_erb.specs.declared.node.Arm.{Arm}
 use Rattle.doll_erb.specs.declared.node.ErbFault.{ErbFault}
 use Rattle.doll_erb.specs.declared.node.ErbFault.TheVariants.{StrayEnd, MissingEnd, BadExpr, TooDeep}
-use Rattle.doll_erb.specs.declared.node.KeyPart.{KeyPart}
 use Rattle.doll_erb.specs.declared.role.Role.{Role}
 use Rattle.doll_erb.specs.declared.role.Role.TheVariants as role
 use Rattle.doll_erb.specs.declared.role.Opening.{Opening}

@@ -49,12 +49,7 @@ fn one_part(alloc: Global, part: KeyPart) -> Result<Key, ExprFault>
 
 /// At most so many further parts behind those of `key`, and the bracket that closes them.
 #[tactic(auto, unfolding(crate::specs::Tags::parts, crate::specs::Shapes::reads, crate::specs::Shapes::item_at))]
-fn parts_from(
-    alloc: Global,
-    left: u8,
-    mut key: Key,
-    tokens: &[Token],
-) -> Result<Role, ExprFault>
+fn parts_from(alloc: Global, left: u8, mut key: Key, tokens: &[Token]) -> Result<Role, ExprFault>
     ensures { Gives ExprFault.Memory (shapes.reads (spec.parts left key) tokens.now) result }
 {
     if left == 0 {
