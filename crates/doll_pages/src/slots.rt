@@ -81,7 +81,7 @@ impl<T: Copied> Copied for Slots<T> {
 fn copy_slots<T: Copied>(alloc: Global, slots: &[Option<T>]) -> Result<Vec<Option<T>>, Memory>
     ensures { IfOk result (λ copy. copy.items ≡ slots.now) }
 {
-    let mut copy = Vec::new(alloc);
+    let mut copy = Vec::with_capacity(alloc, slots.len())?;
     for slot in slots {
         copy.push(copy_slot(alloc, slot)?)?;
     }
