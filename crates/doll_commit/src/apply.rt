@@ -30,7 +30,7 @@ pub struct Applied {
     pub ids: Ids,
 }
 
-/// Makes a commit on a copy of the table, or tells its first refused change.
+/// Makes a commit on a share of the table, or tells its first refused change.
 pub fn apply(
     alloc: Global,
     table: &Table,
@@ -44,7 +44,7 @@ pub fn apply(
     ensures moments { IfOk result
         (λ applied. CarriesMoment schema.now table.now applied.table commit.now.moment) }
 {
-    apply_to(alloc, table.copy(alloc)?, schema, commit)
+    apply_to(alloc, table.share(alloc)?, schema, commit)
 }
 
 /// Makes a commit on the table itself, of which nothing is copied, or tells its first refused change. The table is used
