@@ -1,247 +1,368 @@
--- What stands in blocks, piece by piece.
-use Rattle.std.proofs.lemmas.List.{append-nil, length-drop}
-use Rattle.std.proofs.lemmas.Bool.{cases_Bool}
-use Rattle.std.proofs.lemmas.List.Sums.{prefix_len-le-length}
-use Rattle.std.specs.List.{flat_map}
-use Rattle.std.proofs.Common.{◌≡◌, ◌≤◌, ℕ, zero, suc, ◌+◌, ◌-◌, true, false, List, [], ◌∷◌, ◌++◌, length, take, drop, Ok, Err, refl, ap, sym, ◌∙◌, inl, inr, arith, append_assoc}
-use Rattle.doll_erb.specs.declared.node.Node.{Node}
+-- The fold over pieces is the grammar of blocks, and its fault the first by the blocks that tags open and close.
+use Rattle.std.proofs.Common.{◌≡◌, ◌<◌, ◌≤◌, ℕ, zero, suc, ◌+◌, Bool, true, false, cond, nat_lt, List, [], ◌∷◌, ◌++◌, length, map, Option, None, Some, Result, Ok, Err, refl, sym, ap, subst, ◌∙◌, append_assoc, arith}
+use Rattle.std.specs.Prelude.{IfOk}
+use Rattle.std.proofs.lemmas.Bool.{lt-ltb}
+use Rattle.std.proofs.lemmas.Bool.Decides.{Decides-ltb}
+use Rattle.std.proofs.lemmas.List.{append-nil}
+use Rattle.doll_text.specs.Gives.{Gives}
+use Rattle.doll_expr.specs.declared.expr.Expr.{Expr}
+use Rattle.doll_erb.specs.declared.node.Node.{Node, roll-Node}
+use Rattle.doll_erb.specs.declared.node.Node.TheOpen.{Node-F}
+use Rattle.doll_erb.specs.declared.node.Arm.{Arm}
 use Rattle.doll_erb.specs.declared.node.ErbFault.{ErbFault}
+use Rattle.doll_erb.specs.declared.node.ErbFault.TheVariants.{Memory, StrayEnd, TooDeep}
+use Rattle.doll_erb.specs.declared.node.KeyPart.{KeyPart}
+use Rattle.doll_erb.specs.declared.role.Role.{Role}
+use Rattle.doll_erb.specs.declared.role.Role.TheVariants as role
+use Rattle.doll_erb.specs.declared.role.Opening.{Opening}
+use Rattle.doll_erb.specs.declared.role.Opening.TheVariants as opening
+use Rattle.doll_erb.specs.declared.role.Closing.{Closing}
+use Rattle.doll_erb.specs.declared.role.Closing.TheVariants as closing
+use Rattle.doll_erb.specs.declared.frame.Frame.{Frame}
+use Rattle.doll_erb.specs.declared.frame.Frame.TheVariants as frame
 use Rattle.doll_erb.specs.declared.piece.Tag.{Tag}
-use Rattle.doll_erb.specs.Trees.{Content, Open, Read, Inward, and_then, before, text_nodes, front_text, front_len, text_of, is_plain, behind, at_text_end, content_from}
-use Rattle.doll_erb.specs.Parts.{IsRest, from_tag}
+use Rattle.doll_erb.specs.Cuts.{cut_of}
+use Rattle.doll_erb.specs.Trees.{and_then, text_of, with_text, arm, role_in, State, state, body_of, frame_of, number_in, nodes_with, opened, part_ended, closed_in, with_role, with_piece, with_pieces, place_of, at_end, whole, tree_of}
+use Rattle.doll_erb.specs.Grammar.{Does, IsOpening, IsClosing, Made, Makes, nothing, texts, leaf, each, cache, if_arm, elsif_arm, if_end, if_else, IsTemplate, OneTree}
 
--- ---- nodes before a content
+-- ---- a piece after another
 
-pub before_nil : (r : Read) → before [] r ≡ r
-before_nil (Err e) = refl
-before_nil (Ok c) = refl
+does_step : (text : List ℕ) (s : State) (piece : Tag) (what : Role) → Does text piece what → with_piece text s piece ≡ with_role text s piece what
+unfolding with_piece
+does_step text s piece what does = ap (λ (r : Result Role ErbFault). and_then r (with_role text s piece)) does
 
-pub before_before : (xs ys : List Node) (r : Read) → before xs (before ys r) ≡ before (xs ++ ys) r
-before_before xs ys (Err e) = refl
-before_before xs ys (Ok c) =
-    ap (λ (t : List Node). Ok (record { tree = t; arms = c.arms; otherwise = c.otherwise; block = c.block; rest = c.rest })) (sym (append_assoc xs ys c.tree))
+step_ok : (text : List ℕ) (s next : State) (piece : Tag) (pieces : List Tag) → with_piece text s piece ≡ Ok next → with_pieces text s (piece ∷ pieces) ≡ with_pieces text next pieces
+unfolding with_pieces
+step_ok text s next piece pieces h = ap (λ (r : Result State ErbFault). and_then r (λ n. with_pieces text n pieces)) h
 
--- ---- pieces that are passed over, texts, and tags
+last_step : (text : List ℕ) (s next : State) (piece : Tag) → with_piece text s piece ≡ Ok next → with_pieces text s (piece ∷ []) ≡ Ok next
+unfolding with_pieces
+last_step text s next piece h = ap (λ (r : Result State ErbFault). and_then r (λ n. with_pieces text n [])) h
 
-pub content_dropped : (text : List ℕ) (inward : Inward) (innermost : Open) (passed number : ℕ) (pieces : List Tag) → passed ≤ length pieces
-    → content_from text inward innermost passed number pieces ≡ content_from text inward innermost 0 number (drop passed pieces)
-unfolding content_from
-content_dropped text inward innermost zero number pieces within = refl
-content_dropped text inward innermost (suc passed) number [] within = absurd (omega arith)
-content_dropped text inward innermost (suc passed) number (piece ∷ pieces) within = content_dropped text inward innermost passed number pieces (omega arith)
-
-pub front_len_yes : (text : List ℕ) (piece : Tag) (pieces : List Tag) → is_plain text piece ≡ true → front_len text (piece ∷ pieces) ≡ suc (front_len text pieces)
-unfolding front_len
-front_len_yes text piece pieces plain = rw plain (omega arith)
-
-pub front_len_no : (text : List ℕ) (piece : Tag) (pieces : List Tag) → is_plain text piece ≡ false → front_len text (piece ∷ pieces) ≡ 0
-unfolding front_len
-front_len_no text piece pieces other = rw other refl
-
-pub front_len_nil : (text : List ℕ) → front_len text [] ≡ 0
-unfolding front_len
-front_len_nil text = refl
-
-pub front_text_yes : (text : List ℕ) (piece : Tag) (pieces : List Tag) → is_plain text piece ≡ true → front_text text (piece ∷ pieces) ≡ text_of text piece ++ front_text text pieces
-unfolding front_text
-front_text_yes text piece pieces plain = ap (λ (n : ℕ). flat_map (text_of text) (take n (piece ∷ pieces))) (front_len_yes text piece pieces plain)
-
-pub front_text_no : (text : List ℕ) (piece : Tag) (pieces : List Tag) → is_plain text piece ≡ false → front_text text (piece ∷ pieces) ≡ []
-unfolding front_text
-front_text_no text piece pieces other = ap (λ (n : ℕ). flat_map (text_of text) (take n (piece ∷ pieces))) (front_len_no text piece pieces other)
-
-pub front_text_nil : (text : List ℕ) → front_text text [] ≡ []
-unfolding front_text
-front_text_nil text = ap (λ (n : ℕ). flat_map (text_of text) (take n [])) (front_len_nil text)
-
-pub front_rest_yes : (text : List ℕ) (piece : Tag) (pieces : List Tag) → is_plain text piece ≡ true → drop (front_len text (piece ∷ pieces)) (piece ∷ pieces) ≡ drop (front_len text pieces) pieces
-front_rest_yes text piece pieces plain = ap (λ (n : ℕ). drop n (piece ∷ pieces)) (front_len_yes text piece pieces plain)
-
-pub front_rest_no : (text : List ℕ) (piece : Tag) (pieces : List Tag) → is_plain text piece ≡ false → drop (front_len text (piece ∷ pieces)) (piece ∷ pieces) ≡ piece ∷ pieces
-front_rest_no text piece pieces other = ap (λ (n : ℕ). drop n (piece ∷ pieces)) (front_len_no text piece pieces other)
-
-no_pieces : List Tag
-no_pieces = []
-
-front_rest_nil : (text : List ℕ) → drop (front_len text []) no_pieces ≡ no_pieces
-unfolding no_pieces
-front_rest_nil text = ap (λ (n : ℕ). drop n no_pieces) (front_len_nil text)
-
--- a text more at the front
-pub text_more : (text bytes all : List ℕ) (pieces : List Tag) (piece : Tag) (more : List Tag) → pieces ≡ piece ∷ more → is_plain text piece ≡ true
-    → bytes ++ front_text text pieces ≡ all → (bytes ++ text_of text piece) ++ front_text text more ≡ all
-text_more text bytes all pieces piece more first plain so_far =
-    append_assoc bytes (text_of text piece) (front_text text more)
-    ∙ sym (ap (λ (t : List ℕ). bytes ++ t) (ap (front_text text) first ∙ front_text_yes text piece more plain))
-    ∙ so_far
-
-pub rest_more : (text : List ℕ) (pieces : List Tag) (piece : Tag) (more all : List Tag) → pieces ≡ piece ∷ more → is_plain text piece ≡ true
-    → drop (front_len text pieces) pieces ≡ all → drop (front_len text more) more ≡ all
-rest_more text pieces piece more all first plain so_far =
-    sym (ap (λ (ts : List Tag). drop (front_len text ts) ts) first ∙ front_rest_yes text piece more plain) ∙ so_far
-
--- the text ends at another piece
-pub text_stops : (text bytes all : List ℕ) (pieces : List Tag) (piece : Tag) (more : List Tag) → pieces ≡ piece ∷ more → is_plain text piece ≡ false
-    → bytes ++ front_text text pieces ≡ all → bytes ≡ all
-text_stops text bytes all pieces piece more first other so_far =
-    sym (ap (λ (t : List ℕ). bytes ++ t) (ap (front_text text) first ∙ front_text_no text piece more other) ∙ append-nil bytes) ∙ so_far
-
-pub rest_stops : (text : List ℕ) (pieces : List Tag) (piece : Tag) (more all : List Tag) → pieces ≡ piece ∷ more → is_plain text piece ≡ false
-    → drop (front_len text pieces) pieces ≡ all → pieces ≡ all
-rest_stops text pieces piece more all first other so_far =
-    first ∙ sym (front_rest_no text piece more other) ∙ sym (ap (λ (ts : List Tag). drop (front_len text ts) ts) first) ∙ so_far
-
--- the text ends with the pieces
-pub text_ends : (text bytes all : List ℕ) (pieces : List Tag) → length pieces ≡ 0 → bytes ++ front_text text pieces ≡ all → bytes ≡ all
-text_ends text bytes all [] none so_far = sym (ap (λ (t : List ℕ). bytes ++ t) (front_text_nil text) ∙ append-nil bytes) ∙ so_far
-text_ends text bytes all (piece ∷ pieces) none so_far = absurd (omega arith)
-
-pub rest_ends : (text : List ℕ) (pieces all : List Tag) → length pieces ≡ 0 → drop (front_len text pieces) pieces ≡ all → pieces ≡ all
-unfolding no_pieces
-rest_ends text [] all none so_far = sym (front_rest_nil text) ∙ so_far
-rest_ends text (piece ∷ pieces) all none so_far = absurd (omega arith)
-
-pub front_within : (text : List ℕ) (pieces : List Tag) → front_len text pieces ≤ length pieces
-unfolding front_len
-front_within text pieces = prefix_len-le-length (is_plain text) pieces
-
-plain_step : (text : List ℕ) (inward : Inward) (innermost : Open) (number : ℕ) (piece : Tag) (pieces : List Tag) → is_plain text piece ≡ true
-    → content_from text inward innermost 0 number (piece ∷ pieces) ≡ before (text_nodes (front_text text (piece ∷ pieces))) (content_from text inward innermost (front_len text pieces) number pieces)
-unfolding content_from
-plain_step text inward innermost number piece pieces plain = rw plain refl
-
-pub tag_step : (text : List ℕ) (inward : Inward) (innermost : Open) (number : ℕ) (piece : Tag) (pieces : List Tag) → is_plain text piece ≡ false
-    → content_from text inward innermost 0 number (piece ∷ pieces) ≡ from_tag text inward innermost piece number pieces
-unfolding content_from
-tag_step text inward innermost number piece pieces other = rw other refl
-
--- the text at the front, and what stands behind it
-pub content_front : (text : List ℕ) (inward : Inward) (innermost : Open) (number : ℕ) (pieces : List Tag)
-    → content_from text inward innermost 0 number pieces ≡ before (text_nodes (front_text text pieces)) (content_from text inward innermost 0 number (drop (front_len text pieces) pieces))
-unfolding no_pieces
-content_front text inward innermost number [] =
-    sym (ap (λ (bytes : List ℕ). before (text_nodes bytes) (content_from text inward innermost 0 number (drop (front_len text []) []))) (front_text_nil text)
-    ∙ before_nil (content_from text inward innermost 0 number (drop (front_len text []) []))
-    ∙ ap (λ (ts : List Tag). content_from text inward innermost 0 number ts) (front_rest_nil text))
-content_front text inward innermost number (piece ∷ pieces) =
-    elim (cases_Bool (is_plain text piece)) [
-      | inl plain ↦ with_text plain
-      | inr other ↦ without other
-    ]
+more_ok : (text : List ℕ) (s next : State) (ts us : List Tag) → with_pieces text s ts ≡ Ok next → with_pieces text s (ts ++ us) ≡ with_pieces text next us
+unfolding with_pieces
+more_ok text s next [] us h = let same : s ≡ next = cc h in ap (λ (n : State). with_pieces text n us) same
+more_ok text s next (t ∷ ts) us h = by_piece (λ n. more_ok text n next ts us) (with_piece text s t) h
   where
-    with_text : is_plain text piece ≡ true → content_from text inward innermost 0 number (piece ∷ pieces) ≡ before (text_nodes (front_text text (piece ∷ pieces))) (content_from text inward innermost 0 number (drop (front_len text (piece ∷ pieces)) (piece ∷ pieces)))
-    with_text plain =
-        plain_step text inward innermost number piece pieces plain
-        ∙ ap (before (text_nodes (front_text text (piece ∷ pieces)))) (content_dropped text inward innermost (front_len text pieces) number pieces (front_within text pieces))
-        ∙ ap (λ (ts : List Tag). before (text_nodes (front_text text (piece ∷ pieces))) (content_from text inward innermost 0 number ts)) (sym (front_rest_yes text piece pieces plain))
+    by_piece : ((n : State) → with_pieces text n ts ≡ Ok next → with_pieces text n (ts ++ us) ≡ with_pieces text next us) → (r : Result State ErbFault)
+        → and_then r (λ n. with_pieces text n ts) ≡ Ok next → and_then r (λ n. with_pieces text n (ts ++ us)) ≡ with_pieces text next us
+    by_piece more (Ok n) is = more n is
+    by_piece more (Err fault) is = absurd (cc is)
 
-    without : is_plain text piece ≡ false → content_from text inward innermost 0 number (piece ∷ pieces) ≡ before (text_nodes (front_text text (piece ∷ pieces))) (content_from text inward innermost 0 number (drop (front_len text (piece ∷ pieces)) (piece ∷ pieces)))
-    without other =
-        sym (ap (λ (bytes : List ℕ). before (text_nodes bytes) (content_from text inward innermost 0 number (drop (front_len text (piece ∷ pieces)) (piece ∷ pieces)))) (front_text_no text piece pieces other)
-        ∙ before_nil (content_from text inward innermost 0 number (drop (front_len text (piece ∷ pieces)) (piece ∷ pieces)))
-        ∙ ap (λ (ts : List Tag). content_from text inward innermost 0 number ts) (front_rest_no text piece pieces other))
+-- ---- what the grammar makes is read
 
--- ---- a turn: the nodes so far, with the text at the front, and the tag behind it
+abbrev Claim : List ℕ → ℕ → ℕ → List Tag → Made → ℕ → Type 0
+Claim text left number pieces (Made.nodes ns bs) after = (fs : List Frame) → length fs + left ≡ 64 → with_pieces text (state fs [] [] number) pieces ≡ Ok (state fs ns bs after)
+Claim text left number pieces (Made.arms at first arm_at test) after = (fs : List Frame) (os : List Node) (obs : List ℕ) → suc (length fs + left) ≡ 64
+    → with_pieces text (state fs os obs number) pieces ≡ Ok (state (frame.If at first arm_at test (with_text os obs) ∷ fs) [] [] after)
 
-pub at_tag : (text : List ℕ) (inward : Inward) (innermost : Open) (number : ℕ) (tree nodes : List Node) (bytes : List ℕ) (pieces ahead : List Tag) (piece : Tag) (more : List Tag) (all : Read)
-    → all ≡ before tree (content_from text inward innermost 0 number pieces) → nodes ≡ tree ++ text_nodes bytes → bytes ≡ front_text text pieces
-    → ahead ≡ drop (front_len text pieces) pieces → ahead ≡ piece ∷ more → is_plain text piece ≡ false
-    → all ≡ before nodes (from_tag text inward innermost piece number more)
-at_tag text inward innermost number tree nodes bytes pieces ahead piece more all so_far made read behind first other =
-    so_far
-    ∙ ap (before tree) (content_front text inward innermost number pieces)
-    ∙ before_before tree (text_nodes (front_text text pieces)) (content_from text inward innermost 0 number (drop (front_len text pieces) pieces))
-    ∙ ap (λ (ts : List Tag). before (tree ++ text_nodes (front_text text pieces)) (content_from text inward innermost 0 number ts)) (sym behind ∙ first)
-    ∙ ap (before (tree ++ text_nodes (front_text text pieces))) (tag_step text inward innermost number piece more other)
-    ∙ ap (λ (t : List ℕ). before (tree ++ text_nodes t) (from_tag text inward innermost piece number more)) (sym read)
-    ∙ ap (λ (ns : List Node). before ns (from_tag text inward innermost piece number more)) (sym made)
+opens_step : (text : List ℕ) (fs : List Frame) (ns : List Node) (bs : List ℕ) (number : ℕ) (piece : Tag) (what : Opening) → IsOpening text piece what → length fs < 64
+    → with_piece text (state fs ns bs number) piece ≡ Ok (state (frame_of piece.span.from number what (with_text ns bs) ∷ fs) [] [] (number_in number what))
+opens_step text fs ns bs number piece what opens few =
+    does_step text (state fs ns bs number) piece (role.Opens what) opens
+    ∙ ap (λ (b : Bool). cond b (Ok (state (frame_of piece.span.from number what (with_text ns bs) ∷ fs) [] [] (number_in number what))) (Err (TooDeep piece.span.from))) (lt-ltb (length fs) 64 few)
 
-pub no_more : (text : List ℕ) (inward : Inward) (innermost : Open) (number : ℕ) (pieces : List Tag) → length pieces ≡ 0 → content_from text inward innermost 0 number pieces ≡ at_text_end innermost number
-unfolding content_from
-no_more text inward innermost number [] none = refl
-no_more text inward innermost number (piece ∷ pieces) none = absurd (omega arith)
+-- a block that nothing but `end` parts
+block_runs : (text : List ℕ) (fs : List Frame) (ns body : List Node) (bs last : List ℕ) (number after : ℕ) (piece closes : Tag) (inside : List Tag) (what : Opening) → IsOpening text piece what → length fs < 64
+    → with_pieces text (state (frame_of piece.span.from number what (with_text ns bs) ∷ fs) [] [] (number_in number what)) inside ≡ Ok (state (frame_of piece.span.from number what (with_text ns bs) ∷ fs) body last after)
+    → IsClosing text closes closing.End
+    → with_pieces text (state fs ns bs number) (piece ∷ (inside ++ closes ∷ [])) ≡ Ok (state fs (nodes_with (frame_of piece.span.from number what (with_text ns bs)) (with_text body last)) [] after)
+block_runs text fs ns body bs last number after piece closes inside what opens few runs ends =
+    let inner : State = state (frame_of piece.span.from number what (with_text ns bs) ∷ fs) body last after in
+    step_ok text (state fs ns bs number) (state (frame_of piece.span.from number what (with_text ns bs) ∷ fs) [] [] (number_in number what)) piece (inside ++ closes ∷ []) (opens_step text fs ns bs number piece what opens few)
+    ∙ more_ok text (state (frame_of piece.span.from number what (with_text ns bs) ∷ fs) [] [] (number_in number what)) inner inside (closes ∷ []) runs
+    ∙ last_step text inner (state fs (nodes_with (frame_of piece.span.from number what (with_text ns bs)) (with_text body last)) [] after) closes (does_step text inner closes (role.Closes closing.End) ends)
 
-pub at_no_tag : (text : List ℕ) (inward : Inward) (innermost : Open) (number : ℕ) (tree nodes : List Node) (bytes : List ℕ) (pieces ahead : List Tag) (all : Read)
-    → all ≡ before tree (content_from text inward innermost 0 number pieces) → nodes ≡ tree ++ text_nodes bytes → bytes ≡ front_text text pieces
-    → ahead ≡ drop (front_len text pieces) pieces → length ahead ≡ 0
-    → all ≡ before nodes (at_text_end innermost number)
-at_no_tag text inward innermost number tree nodes bytes pieces ahead all so_far made read behind none =
-    so_far
-    ∙ ap (before tree) (content_front text inward innermost number pieces)
-    ∙ before_before tree (text_nodes (front_text text pieces)) (content_from text inward innermost 0 number (drop (front_len text pieces) pieces))
-    ∙ ap (λ (ts : List Tag). before (tree ++ text_nodes (front_text text pieces)) (content_from text inward innermost 0 number ts)) (sym behind)
-    ∙ ap (before (tree ++ text_nodes (front_text text pieces))) (no_more text inward innermost number ahead none)
-    ∙ ap (λ (t : List ℕ). before (tree ++ text_nodes t) (at_text_end innermost number)) (sym read)
-    ∙ ap (λ (ns : List Node). before ns (at_text_end innermost number)) (sym made)
+claims : (text : List ℕ) (left number : ℕ) (pieces : List Tag) (made : Made) (after : ℕ) → Makes text left number pieces made after → Claim text left number pieces made after
+unfolding with_pieces
+claims text _ _ _ _ _ (nothing left number) = λ fs room. refl
+claims text _ _ _ _ _ (texts left number after pieces piece ns bs m does) = λ fs room.
+    more_ok text (state fs [] [] number) (state fs ns bs after) pieces (piece ∷ []) (claims text left number pieces (Made.nodes ns bs) after m fs room)
+    ∙ last_step text (state fs ns bs after) _ piece (does_step text (state fs ns bs after) piece role.Nothing does)
+claims text _ _ _ _ _ (leaf left number after pieces piece ns bs node m does) = λ fs room.
+    more_ok text (state fs [] [] number) (state fs ns bs after) pieces (piece ∷ []) (claims text left number pieces (Made.nodes ns bs) after m fs room)
+    ∙ last_step text (state fs ns bs after) _ piece (does_step text (state fs ns bs after) piece (role.Leaf node) does)
+claims text _ _ _ _ _ (each left number inner after pieces inside piece closes ns body bs last list name m opens n ends) = λ fs room.
+    let here : length (frame.Each piece.span.from list name (with_text ns bs) ∷ fs) + left ≡ 64 = omega (arith, room) in
+    more_ok text (state fs [] [] number) (state fs ns bs inner) pieces (piece ∷ (inside ++ closes ∷ [])) (claims text (suc left) number pieces (Made.nodes ns bs) inner m fs room)
+    ∙ block_runs text fs ns body bs last inner after piece closes inside (opening.Each list name) opens (omega (arith, room)) (claims text left inner inside (Made.nodes body last) after n (frame.Each piece.span.from list name (with_text ns bs) ∷ fs) here) ends
+claims text _ _ _ _ _ (cache left number inner after pieces inside piece closes ns body bs last key m opens n ends) = λ fs room.
+    let here : length (frame.Cache piece.span.from inner key (with_text ns bs) ∷ fs) + left ≡ 64 = omega (arith, room) in
+    more_ok text (state fs [] [] number) (state fs ns bs inner) pieces (piece ∷ (inside ++ closes ∷ [])) (claims text (suc left) number pieces (Made.nodes ns bs) inner m fs room)
+    ∙ block_runs text fs ns body bs last inner after piece closes inside (opening.Cache key) opens (omega (arith, room)) (claims text left (inner + 1) inside (Made.nodes body last) after n (frame.Cache piece.span.from inner key (with_text ns bs) ∷ fs) here) ends
+claims text _ _ _ _ _ (if_arm left number piece test opens) = λ fs os obs room.
+    last_step text (state fs os obs number) _ piece (opens_step text fs os obs number piece (opening.If test) opens (omega (arith, room)))
+claims text _ _ _ _ _ (elsif_arm left number inner after at arm_at pieces inside parts first test next body last m n ends) = λ fs os obs room.
+    let f : Frame = frame.If at first arm_at test (with_text os obs) in
+    let here : length (frame.If at first arm_at test (with_text os obs) ∷ fs) + left ≡ 64 = omega (arith, room) in
+    more_ok text (state fs os obs number) (state (f ∷ fs) [] [] inner) pieces (inside ++ parts ∷ []) (claims text left number pieces (Made.arms at first arm_at test) inner m fs os obs room)
+    ∙ more_ok text (state (f ∷ fs) [] [] inner) (state (f ∷ fs) body last after) inside (parts ∷ []) (claims text left inner inside (Made.nodes body last) after n (f ∷ fs) here)
+    ∙ last_step text (state (f ∷ fs) body last after) _ parts (does_step text (state (f ∷ fs) body last after) parts (role.Closes (closing.Elsif next)) ends)
+claims text _ _ _ _ _ (if_end left number inner middle after at arm_at pieces header inside closes ns body bs last first test m h n ends) = λ fs room.
+    let f : Frame = frame.If at first arm_at test (with_text ns bs) in
+    let here : length (frame.If at first arm_at test (with_text ns bs) ∷ fs) + left ≡ 64 = omega (arith, room) in
+    more_ok text (state fs [] [] number) (state fs ns bs inner) pieces (header ++ (inside ++ closes ∷ [])) (claims text (suc left) number pieces (Made.nodes ns bs) inner m fs room)
+    ∙ more_ok text (state fs ns bs inner) (state (f ∷ fs) [] [] middle) header (inside ++ closes ∷ []) (claims text left inner header (Made.arms at first arm_at test) middle h fs ns bs (omega (arith, room)))
+    ∙ more_ok text (state (f ∷ fs) [] [] middle) (state (f ∷ fs) body last after) inside (closes ∷ []) (claims text left middle inside (Made.nodes body last) after n (f ∷ fs) here)
+    ∙ last_step text (state (f ∷ fs) body last after) _ closes (does_step text (state (f ∷ fs) body last after) closes (role.Closes closing.End) ends)
+claims text _ _ _ _ _ (if_else left number inner middle third after at arm_at pieces header inside rest parts closes ns body otherwise bs last others first test m h n parted o ends) = λ fs room.
+    let f : Frame = frame.If at first arm_at test (with_text ns bs) in
+    let g : Frame = frame.Else at (first ++ arm arm_at test (with_text body last) ∷ []) (with_text ns bs) in
+    let here : length (frame.If at first arm_at test (with_text ns bs) ∷ fs) + left ≡ 64 = omega (arith, room) in
+    more_ok text (state fs [] [] number) (state fs ns bs inner) pieces (header ++ (inside ++ parts ∷ (rest ++ closes ∷ []))) (claims text (suc left) number pieces (Made.nodes ns bs) inner m fs room)
+    ∙ more_ok text (state fs ns bs inner) (state (f ∷ fs) [] [] middle) header (inside ++ parts ∷ (rest ++ closes ∷ [])) (claims text left inner header (Made.arms at first arm_at test) middle h fs ns bs (omega (arith, room)))
+    ∙ more_ok text (state (f ∷ fs) [] [] middle) (state (f ∷ fs) body last third) inside (parts ∷ (rest ++ closes ∷ [])) (claims text left middle inside (Made.nodes body last) third n (f ∷ fs) here)
+    ∙ step_ok text (state (f ∷ fs) body last third) (state (g ∷ fs) [] [] third) parts (rest ++ closes ∷ []) (does_step text (state (f ∷ fs) body last third) parts (role.Closes closing.Else) parted)
+    ∙ more_ok text (state (g ∷ fs) [] [] third) (state (g ∷ fs) otherwise others after) rest (closes ∷ []) (claims text left third rest (Made.nodes otherwise others) after o (g ∷ fs) here)
+    ∙ last_step text (state (g ∷ fs) otherwise others after) _ closes (does_step text (state (g ∷ fs) otherwise others after) closes (role.Closes closing.End) ends)
 
--- ---- blocks among pieces
+pub text_only : (text : List ℕ) (tree : List Node) → IsTemplate text tree → tree_of text ≡ Ok tree
+unfolding tree_of whole
+text_only text tree is =
+    let runs = claims text 64 0 is.pieces (Made.nodes is.before is.bytes) is.after is.makes [] refl in
+    ap (λ (r : Result (List Tag) ErbFault). and_then r (λ pieces. and_then (with_pieces text (state [] [] [] 0) pieces) (λ s. at_end s.frames s))) is.is_cut
+    ∙ ap (λ (r : Result State ErbFault). and_then r (λ s. at_end s.frames s)) runs ∙ ap Ok (sym is.is)
 
-pub made : (text : List ℕ) (inward : Inward) (innermost : Open) (pieces : List Tag) (node_of : Content → Node) (body : Read) (block number : ℕ) (node : Node) (rest : List Tag)
-    → and_then {B = Node × ℕ × List Tag} body (λ c. Ok (node_of c, c.block, c.rest)) ≡ Ok (node, number, rest) → IsRest block pieces number rest
-    → behind (λ next passed n. content_from text inward next passed n pieces) innermost pieces node_of body ≡ before (node ∷ []) (content_from text inward innermost 0 number rest)
-made text inward innermost pieces node_of (Err e) block number node rest is ends = absurd (cc is)
-made text inward innermost pieces node_of (Ok c) block number node rest is ends =
-    let parts : (node_of c, c.block, c.rest) ≡ (node, number, rest) = cc is in
-    let nodes : node_of c ≡ node = ap (λ (t : Node × ℕ × List Tag). t.0) parts in
-    let numbers : c.block ≡ number = ap (λ (t : Node × ℕ × List Tag). t.1) parts in
-    let rests : c.rest ≡ rest = ap (λ (t : Node × ℕ × List Tag). t.2) parts in
-    rw (nodes, numbers, rests) (ap (before (node ∷ [])) (content_dropped text inward innermost (length pieces - length rest) number pieces (omega arith)
-    ∙ ap (λ (ts : List Tag). content_from text inward innermost 0 number ts) (sym ends.last)))
+-- ---- what is read is what the grammar makes
 
-pub made_fault : (onward : Open → ℕ → ℕ → Read) (innermost : Open) (pieces : List Tag) (node_of : Content → Node) (body : Read) (fault : ErbFault)
-    → and_then {B = Node × ℕ × List Tag} body (λ c. Ok (node_of c, c.block, c.rest)) ≡ Err fault → behind onward innermost pieces node_of body ≡ Err fault
-made_fault onward innermost pieces node_of (Err e) fault is = ap Err (cc is)
-made_fault onward innermost pieces node_of (Ok c) fault is = absurd (cc is)
+abbrev Nodes : List ℕ → ℕ → ℕ → List Tag → List Node → List ℕ → ℕ → Type 0
+Nodes text left number pieces ns bs after = Makes text left number pieces (Made.nodes ns bs) after
 
--- ---- the rest of pieces
+-- What opens a block, up to the part that is read: with the number of the next cache tag before and behind it.
+abbrev Header : List ℕ → Frame → ℕ → ℕ → List Tag → ℕ → Type 0
+Header text (frame.If at first arm_at test outer) left inner header start = Makes text left inner header (Made.arms at first arm_at test) start
+Header text (frame.Else at all outer) left inner header start =
+    (front : List Tag) × (inside : List Tag) × (parts : Tag) × (first : List Arm) × (arm_at : ℕ) × (test : Expr) × (body : List Node) × (last : List ℕ) × (middle : ℕ)
+    × (header ≡ front ++ (inside ++ parts ∷ [])) × (all ≡ first ++ arm arm_at test (with_text body last) ∷ []) × Makes text left inner front (Made.arms at first arm_at test) middle
+    × Nodes text left middle inside body last start × IsClosing text parts closing.Else
+Header text (frame.Each at list name outer) left inner header start = (piece : Tag) × (header ≡ piece ∷ []) × (at ≡ piece.span.from) × (start ≡ inner) × IsOpening text piece (opening.Each list name)
+Header text (frame.Cache at number key outer) left inner header start =
+    (piece : Tag) × (header ≡ piece ∷ []) × (at ≡ piece.span.from) × (start ≡ inner + 1) × (number ≡ inner) × IsOpening text piece (opening.Cache key)
 
-pub rest_same : (number : ℕ) (pieces : List Tag) → IsRest number pieces number pieces
-rest_same number pieces =
-    let none : length pieces - length pieces ≡ 0 = omega arith in
-    record { shorter = omega arith; last = sym (ap (λ (n : ℕ). drop n pieces) none); numbers = omega arith }
+abbrev outer_of : Frame → List Node
+outer_of (frame.If at first arm_at test outer) = outer
+outer_of (frame.Else at all outer) = outer
+outer_of (frame.Each at list name outer) = outer
+outer_of (frame.Cache at number key outer) = outer
 
-drop_drop : (m n : ℕ) (pieces : List Tag) → m ≤ length pieces → drop n (drop m pieces) ≡ drop (m + n) pieces
-drop_drop zero n pieces within = ap (λ (k : ℕ). drop k pieces) (omega arith)
-drop_drop (suc m) n [] within = absurd (omega arith)
-drop_drop (suc m) n (piece ∷ pieces) within =
-    let more : suc m + n ≡ suc (m + n) = omega arith in
-    drop_drop m n pieces (omega arith) ∙ sym (ap (λ (k : ℕ). drop k (piece ∷ pieces)) more)
+-- The pieces before the part that is read: those round each open block, and what opens it.
+abbrev Context : List ℕ → List Frame → List Tag → ℕ → ℕ → Type 0
+Context text [] before left start = (before ≡ []) × (left ≡ 64) × (start ≡ 0)
+Context text (f ∷ fs) before left start =
+    (first : List Tag) × (pieces : List Tag) × (header : List Tag) × (ns : List Node) × (bs : List ℕ) × (number : ℕ) × (inner : ℕ)
+    × (before ≡ first ++ (pieces ++ header)) × Context text fs first (suc left) number × Nodes text (suc left) number pieces ns bs inner × (outer_of f ≡ with_text ns bs) × Header text f left inner header start
 
--- the rest of a rest
-pub rest_of_rest : (block number last : ℕ) (pieces rest end : List Tag) → IsRest block pieces number rest → IsRest number rest last end → IsRest block pieces last end
-rest_of_rest block number last pieces rest end first second =
-    let sum : (length pieces - length rest) + (length rest - length end) ≡ length pieces - length end = omega (arith, first.shorter, second.shorter) in
-    record {
-      shorter = omega (arith, first.shorter, second.shorter);
-      last = second.last ∙ ap (drop (length rest - length end)) first.last ∙ drop_drop (length pieces - length rest) (length rest - length end) pieces (omega arith) ∙ ap (λ (k : ℕ). drop k pieces) sum;
-      numbers = omega (arith, first.numbers, second.numbers);
-    }
+record Holds (text : List ℕ) (s : State) (done : List Tag) : Type 0 where
+  before : List Tag
+  inside : List Tag
+  left : ℕ
+  start : ℕ
+  parts : done ≡ before ++ inside
+  context : Context text s.frames before left start
+  nodes : Nodes text left start inside s.nodes s.bytes s.number
 
--- what stands behind the text at the front, and behind the tag there
-pub rest_behind_tag : (text : List ℕ) (number : ℕ) (pieces ahead : List Tag) (piece : Tag) (more : List Tag) → ahead ≡ drop (front_len text pieces) pieces → ahead ≡ piece ∷ more → IsRest number pieces (number + 1) more
-rest_behind_tag text number pieces ahead piece more behind first =
-    let n : ℕ = front_len text pieces in
-    let within : front_len text pieces ≤ length pieces = front_within text pieces in
-    let size : length more + 1 ≡ length pieces - front_len text pieces = size_behind in
-    let more_is : more ≡ drop (front_len text pieces + 1) pieces = ap (λ (ts : List Tag). drop 1 ts) (sym first ∙ behind) ∙ drop_drop (front_len text pieces) 1 pieces within in
-    let count : front_len text pieces + 1 ≡ length pieces - length more = omega (arith, size, within) in
-    record {
-      shorter = omega (arith, size);
-      last = more_is ∙ ap (λ (k : ℕ). drop k pieces) count;
-      numbers = omega (arith, size);
-    }
+context_left : (text : List ℕ) (fs : List Frame) (before : List Tag) (left start : ℕ) → Context text fs before left start → length fs + left ≡ 64
+context_left text [] before left start c = let all = c.1 in omega (arith, all)
+context_left text (f ∷ fs) before left start c = let more = context_left text fs c.0 (suc left) c.5 c.8 in omega (arith, more)
+
+snoc : (done before inside : List Tag) (piece : Tag) → done ≡ before ++ inside → done ++ piece ∷ [] ≡ before ++ (inside ++ piece ∷ [])
+snoc done before inside piece h = ap (λ (ts : List Tag). ts ++ piece ∷ []) h ∙ append_assoc before inside (piece ∷ [])
+
+-- the piece joins what stands in the innermost block
+joins : (text : List ℕ) (s : State) (done : List Tag) (piece : Tag) (ns : List Node) (bs : List ℕ) → (h : Holds text s done) → Nodes text h.left h.start (h.inside ++ piece ∷ []) ns bs s.number → Holds text (state s.frames ns bs s.number) (done ++ piece ∷ [])
+joins text s done piece ns bs h makes = record { before = h.before; inside = h.inside ++ piece ∷ []; left = h.left; start = h.start; parts = snoc done h.before h.inside piece h.parts; context = h.context; nodes = makes }
+
+-- the piece begins a part
+part_begins : (text : List ℕ) (s : State) (f : Frame) (fs : List Frame) (number left start : ℕ) (done before : List Tag) → done ≡ before → Context text (f ∷ fs) before left number → Holds text (state (f ∷ fs) [] [] number) done
+part_begins text s f fs number left start done before same context = record {
+  before = before;
+  inside = [];
+  left = left;
+  start = number;
+  parts = same ∙ sym (append-nil before);
+  context = context;
+  nodes = nothing left number;
+}
+
+frame_header : (text : List ℕ) (number left : ℕ) (piece : Tag) (what : Opening) (outer : List Node) → IsOpening text piece what → Header text (frame_of piece.span.from number what outer) left number (piece ∷ []) (number_in number what)
+frame_header text number left piece (opening.If test) outer opens = if_arm left number piece test opens
+frame_header text number left piece (opening.Each list name) outer opens = (piece, refl, refl, refl, opens)
+frame_header text number left piece (opening.Cache key) outer opens = (piece, refl, refl, refl, refl, opens)
+
+frame_outer : (at number : ℕ) (what : Opening) (outer : List Node) → outer_of (frame_of at number what outer) ≡ outer
+frame_outer at number (opening.If test) outer = refl
+frame_outer at number (opening.Each list name) outer = refl
+frame_outer at number (opening.Cache key) outer = refl
+
+opens_holds : (text : List ℕ) (s : State) (done : List Tag) (piece : Tag) (what : Opening) (before inside : List Tag) (left start : ℕ) → done ≡ before ++ inside → Context text s.frames before left start
+    → Nodes text left start inside s.nodes s.bytes s.number → IsOpening text piece what → length s.frames < 64
+    → Holds text (state (frame_of piece.span.from s.number what (body_of s) ∷ s.frames) [] [] (number_in s.number what)) (done ++ piece ∷ [])
+opens_holds text s done piece what before inside zero start parts context nodes opens few = absurd (let room = context_left text s.frames before 0 start context in omega (arith, room, few))
+opens_holds text s done piece what before inside (suc left) start parts context nodes opens few =
+    part_begins text s (frame_of piece.span.from s.number what (body_of s)) s.frames (number_in s.number what) left start (done ++ piece ∷ []) (before ++ (inside ++ piece ∷ [])) (snoc done before inside piece parts)
+    (before, inside, piece ∷ [], s.nodes, s.bytes, start, s.number, refl, context, nodes, frame_outer piece.span.from s.number what (body_of s), frame_header text s.number left piece what (body_of s) opens)
+
+spread : (done before inside first pieces header : List Tag) (piece : Tag) → done ≡ before ++ inside → before ≡ first ++ (pieces ++ header) → done ++ piece ∷ [] ≡ first ++ (pieces ++ (header ++ (inside ++ piece ∷ [])))
+spread done before inside first pieces header piece parts same =
+    let rest : List Tag = inside ++ piece ∷ [] in
+    snoc done before inside piece parts ∙ ap (λ (ts : List Tag). ts ++ rest) same ∙ append_assoc first (pieces ++ header) rest ∙ ap (λ (ts : List Tag). first ++ ts) (append_assoc pieces header rest)
+
+-- the block with its last part
+closed_block : (text : List ℕ) (f : Frame) (left number inner start after : ℕ) (pieces header inside : List Tag) (closes : Tag) (ns body : List Node) (bs last : List ℕ) → Nodes text (suc left) number pieces ns bs inner
+    → outer_of f ≡ with_text ns bs → Header text f left inner header start → Nodes text left start inside body last after → IsClosing text closes closing.End
+    → Nodes text (suc left) number (pieces ++ (header ++ (inside ++ closes ∷ []))) (nodes_with f (with_text body last)) [] after
+closed_block text (frame.If at first arm_at test outer) left number inner start after pieces header inside closes ns body bs last before same h within ends =
+    subst (λ (o : List Node). Nodes text (suc left) number (pieces ++ (header ++ (inside ++ closes ∷ []))) (o ++ roll-Node (Node-F.If at (first ++ arm arm_at test (with_text body last) ∷ []) []) ∷ []) [] after) (sym same)
+    (if_end left number inner start after at arm_at pieces header inside closes ns body bs last first test before h within ends)
+closed_block text (frame.Else at all outer) left number inner start after pieces header inside closes ns body bs last before same h within ends =
+    let front : List Tag = h.0 in
+    let tail : List Tag = inside ++ closes ∷ [] in
+    let tags : header ++ (inside ++ closes ∷ []) ≡ h.0 ++ (h.1 ++ h.2 ∷ (inside ++ closes ∷ [])) =
+    ap (λ (ts : List Tag). ts ++ tail) h.9 ∙ append_assoc h.0 (h.1 ++ h.2 ∷ []) tail ∙ ap (λ (ts : List Tag). front ++ ts) (append_assoc h.1 (h.2 ∷ []) tail) in
+    let made = if_else left number inner h.8 start after at h.4 pieces h.0 h.1 inside h.2 closes ns h.6 body bs h.7 last h.3 h.5 before h.11 h.12 h.13 within ends in
+    let with_outer = subst (λ (o : List Node). Nodes text (suc left) number (pieces ++ (h.0 ++ (h.1 ++ h.2 ∷ (inside ++ closes ∷ [])))) (o ++ roll-Node (Node-F.If at (h.3 ++ arm h.4 h.5 (with_text h.6 h.7) ∷ []) (with_text body last)) ∷ []) [] after) (sym same) made in
+    let with_arms = subst (λ (a : List Arm). Nodes text (suc left) number (pieces ++ (h.0 ++ (h.1 ++ h.2 ∷ (inside ++ closes ∷ [])))) (outer ++ roll-Node (Node-F.If at a (with_text body last)) ∷ []) [] after) (sym h.10) with_outer in
+    subst (λ (ts : List Tag). Nodes text (suc left) number (pieces ++ ts) (outer ++ roll-Node (Node-F.If at all (with_text body last)) ∷ []) [] after) (sym tags) with_arms
+closed_block text (frame.Each at list name outer) left number inner start after pieces header inside closes ns body bs last before same h within ends =
+    let here : Nodes text left inner inside body last after = subst (λ (n : ℕ). Nodes text left n inside body last after) h.3 within in
+    let made = each left number inner after pieces inside h.0 closes ns body bs last list name before h.4 here ends in
+    let with_outer = subst (λ (o : List Node). Nodes text (suc left) number (pieces ++ h.0 ∷ (inside ++ closes ∷ [])) (o ++ roll-Node (Node-F.Each h.0.span.from list name (with_text body last)) ∷ []) [] after) (sym same) made in
+    let with_at = subst (λ (n : ℕ). Nodes text (suc left) number (pieces ++ h.0 ∷ (inside ++ closes ∷ [])) (outer ++ roll-Node (Node-F.Each n list name (with_text body last)) ∷ []) [] after) (sym h.2) with_outer in
+    subst (λ (ts : List Tag). Nodes text (suc left) number (pieces ++ (ts ++ (inside ++ closes ∷ []))) (outer ++ roll-Node (Node-F.Each at list name (with_text body last)) ∷ []) [] after) (sym h.1) with_at
+closed_block text (frame.Cache at block key outer) left number inner start after pieces header inside closes ns body bs last before same h within ends =
+    let here : Nodes text left (inner + 1) inside body last after = subst (λ (n : ℕ). Nodes text left n inside body last after) h.3 within in
+    let made = cache left number inner after pieces inside h.0 closes ns body bs last key before h.5 here ends in
+    let with_outer = subst (λ (o : List Node). Nodes text (suc left) number (pieces ++ h.0 ∷ (inside ++ closes ∷ [])) (o ++ roll-Node (Node-F.Cache h.0.span.from inner key (with_text body last)) ∷ []) [] after) (sym same) made in
+    let with_at = subst (λ (n : ℕ). Nodes text (suc left) number (pieces ++ h.0 ∷ (inside ++ closes ∷ [])) (outer ++ roll-Node (Node-F.Cache n inner key (with_text body last)) ∷ []) [] after) (sym h.2) with_outer in
+    let with_block = subst (λ (n : ℕ). Nodes text (suc left) number (pieces ++ h.0 ∷ (inside ++ closes ∷ [])) (outer ++ roll-Node (Node-F.Cache at n key (with_text body last)) ∷ []) [] after) (sym h.4) with_at in
+    subst (λ (ts : List Tag). Nodes text (suc left) number (pieces ++ (ts ++ (inside ++ closes ∷ []))) (outer ++ roll-Node (Node-F.Cache at block key (with_text body last)) ∷ []) [] after) (sym h.1) with_block
+
+-- an `if` with an arm more
+arm_holds : (text : List ℕ) (s : State) (done : List Tag) (piece : Tag) (at arm_at : ℕ) (first : List Arm) (test next : Expr) (outer : List Node) (fs : List Frame) (before inside : List Tag) (left start : ℕ) → done ≡ before ++ inside
+    → Context text (frame.If at first arm_at test outer ∷ fs) before left start → Nodes text left start inside s.nodes s.bytes s.number → IsClosing text piece (closing.Elsif next)
+    → Holds text (state (frame.If at (first ++ arm arm_at test (body_of s) ∷ []) piece.span.from next outer ∷ fs) [] [] s.number) (done ++ piece ∷ [])
+arm_holds text s done piece at arm_at first test next outer fs before inside left start parts c nodes ends =
+    part_begins text s (frame.If at (first ++ arm arm_at test (body_of s) ∷ []) piece.span.from next outer) fs s.number left start (done ++ piece ∷ []) (c.0 ++ (c.1 ++ (c.2 ++ (inside ++ piece ∷ []))))
+    (spread done before inside c.0 c.1 c.2 piece parts c.7)
+    (c.0, c.1, c.2 ++ (inside ++ piece ∷ []), c.3, c.4, c.5, c.6, refl, c.8, c.9, c.10, elsif_arm left c.6 start s.number at arm_at c.2 inside piece first test next s.nodes s.bytes c.11 nodes ends)
+
+else_holds : (text : List ℕ) (s : State) (done : List Tag) (piece : Tag) (at arm_at : ℕ) (first : List Arm) (test : Expr) (outer : List Node) (fs : List Frame) (before inside : List Tag) (left start : ℕ) → done ≡ before ++ inside
+    → Context text (frame.If at first arm_at test outer ∷ fs) before left start → Nodes text left start inside s.nodes s.bytes s.number → IsClosing text piece closing.Else
+    → Holds text (state (frame.Else at (first ++ arm arm_at test (body_of s) ∷ []) outer ∷ fs) [] [] s.number) (done ++ piece ∷ [])
+else_holds text s done piece at arm_at first test outer fs before inside left start parts c nodes ends =
+    part_begins text s (frame.Else at (first ++ arm arm_at test (body_of s) ∷ []) outer) fs s.number left start (done ++ piece ∷ []) (c.0 ++ (c.1 ++ (c.2 ++ (inside ++ piece ∷ []))))
+    (spread done before inside c.0 c.1 c.2 piece parts c.7)
+    (c.0, c.1, c.2 ++ (inside ++ piece ∷ []), c.3, c.4, c.5, c.6, refl, c.8, c.9, c.10, (c.2, inside, piece, first, arm_at, test, s.nodes, s.bytes, start, refl, refl, c.11, nodes, ends))
+
+abbrev fault_of : ErbFault → Result State ErbFault
+fault_of fault = Err fault
+
+closing_holds : (text : List ℕ) (s next : State) (done : List Tag) (piece : Tag) (what : Closing) (f : Frame) (fs : List Frame) (before inside : List Tag) (left start : ℕ) → done ≡ before ++ inside → Context text (f ∷ fs) before left start
+    → Nodes text left start inside s.nodes s.bytes s.number → IsClosing text piece what → part_ended f fs (body_of s) s.number piece.span.from what ≡ Ok next → Holds text next (done ++ piece ∷ [])
+closing_holds text s next done piece closing.End f fs before inside left start parts c nodes ends h =
+    let same : state fs (nodes_with f (body_of s)) [] s.number ≡ next = cc h in
+    subst (λ (n : State). Holds text n (done ++ piece ∷ [])) same (record {
+      before = c.0;
+      inside = c.1 ++ (c.2 ++ (inside ++ piece ∷ []));
+      left = suc left;
+      start = c.5;
+      parts = spread done before inside c.0 c.1 c.2 piece parts c.7;
+      context = c.8;
+      nodes = closed_block text f left c.5 c.6 start s.number c.1 c.2 inside piece c.3 s.nodes c.4 s.bytes c.9 c.10 c.11 nodes ends;
+    })
+closing_holds text s next done piece (closing.Elsif test) (frame.If at first arm_at last outer) fs before inside left start parts c nodes ends h =
+    let same : state (frame.If at (first ++ arm arm_at last (body_of s) ∷ []) piece.span.from test outer ∷ fs) [] [] s.number ≡ next = cc h in
+    subst (λ (n : State). Holds text n (done ++ piece ∷ [])) same (arm_holds text s done piece at arm_at first last test outer fs before inside left start parts c nodes ends)
+closing_holds text s next done piece closing.Else (frame.If at first arm_at last outer) fs before inside left start parts c nodes ends h =
+    let same : state (frame.Else at (first ++ arm arm_at last (body_of s) ∷ []) outer ∷ fs) [] [] s.number ≡ next = cc h in
+    subst (λ (n : State). Holds text n (done ++ piece ∷ [])) same (else_holds text s done piece at arm_at first last outer fs before inside left start parts c nodes ends)
+closing_holds text s next done piece what f fs before inside left start parts c nodes ends h = absurd (cc h)
+
+role_holds : (text : List ℕ) (s next : State) (done : List Tag) (piece : Tag) (what : Role) → Holds text s done → Does text piece what → with_role text s piece what ≡ Ok next → Holds text next (done ++ piece ∷ [])
+role_holds text s next done piece role.Nothing holds does h =
+    let same : state s.frames s.nodes (s.bytes ++ text_of text piece) s.number ≡ next = cc h in
+    subst (λ (n : State). Holds text n (done ++ piece ∷ [])) same
+    (joins text s done piece s.nodes (s.bytes ++ text_of text piece) holds (texts holds.left holds.start s.number holds.inside piece s.nodes s.bytes holds.nodes does))
+role_holds text s next done piece (role.Leaf node) holds does h =
+    let same : state s.frames (body_of s ++ node ∷ []) [] s.number ≡ next = cc h in
+    subst (λ (n : State). Holds text n (done ++ piece ∷ [])) same
+    (joins text s done piece (body_of s ++ node ∷ []) [] holds (leaf holds.left holds.start s.number holds.inside piece s.nodes s.bytes node holds.nodes does))
+role_holds text s next done piece (role.Opens what) holds does h = by_room (nat_lt (length s.frames) 64) refl h
   where
-    size_behind : length more + 1 ≡ length pieces - front_len text pieces
-    size_behind = omega (arith, ap length (sym first ∙ behind), length-drop (front_len text pieces) pieces)
+    by_room : (b : Bool) → nat_lt (length s.frames) 64 ≡ b → cond b (Ok (state (frame_of piece.span.from s.number what (body_of s) ∷ s.frames) [] [] (number_in s.number what))) (Err (TooDeep piece.span.from)) ≡ Ok next → Holds text next (done ++ piece ∷ [])
+    by_room true few is =
+        let same : state (frame_of piece.span.from s.number what (body_of s) ∷ s.frames) [] [] (number_in s.number what) ≡ next = cc is in
+        subst (λ (n : State). Holds text n (done ++ piece ∷ [])) same (opens_holds text s done piece what holds.before holds.inside holds.left holds.start holds.parts holds.context holds.nodes does ((Decides-ltb (length s.frames) 64).0 few))
+    by_room false few is = absurd (cc is)
+role_holds text s next done piece (role.Closes what) holds does h = by_frames s.frames holds.context h
+  where
+    by_frames : (fs : List Frame) → Context text fs holds.before holds.left holds.start → closed_in fs s piece.span.from what ≡ Ok next → Holds text next (done ++ piece ∷ [])
+    by_frames [] context is = absurd (cc is)
+    by_frames (f ∷ fs) context is = closing_holds text s next done piece what f fs holds.before holds.inside holds.left holds.start holds.parts context holds.nodes does is
 
--- the pieces behind a text end where they do
-pub rest_at_end : (text : List ℕ) (number : ℕ) (pieces ahead : List Tag) → ahead ≡ drop (front_len text pieces) pieces → IsRest number pieces number ahead
-rest_at_end text number pieces ahead behind =
-    let within : front_len text pieces ≤ length pieces = front_within text pieces in
-    let size : length ahead ≡ length pieces - front_len text pieces = ap length behind ∙ length-drop (front_len text pieces) pieces in
-    let count : front_len text pieces ≡ length pieces - length ahead = omega (arith, size, within) in
-    record { shorter = omega (arith, size); last = behind ∙ ap (λ (k : ℕ). drop k pieces) count; numbers = omega (arith, size) }
+piece_holds : (text : List ℕ) (s next : State) (done : List Tag) (piece : Tag) → Holds text s done → with_piece text s piece ≡ Ok next → Holds text next (done ++ piece ∷ [])
+unfolding with_piece
+piece_holds text s next done piece holds h = by_role (role_in text piece) refl h
+  where
+    by_role : (r : Result Role ErbFault) → role_in text piece ≡ r → and_then r (with_role text s piece) ≡ Ok next → Holds text next (done ++ piece ∷ [])
+    by_role (Ok what) does is = role_holds text s next done piece what holds does is
+    by_role (Err fault) does is = absurd (cc is)
 
--- fewer numbers are no more
-pub rest_fewer : (block number : ℕ) (pieces rest : List Tag) → IsRest block pieces (number + 1) rest → IsRest block pieces number rest
-rest_fewer block number pieces rest is = record { shorter = is.shorter; last = is.last; numbers = omega (arith, is.numbers) }
+pieces_hold : (text : List ℕ) (s next : State) (done pieces : List Tag) → Holds text s done → with_pieces text s pieces ≡ Ok next → Holds text next (done ++ pieces)
+unfolding with_pieces
+pieces_hold text s next done [] holds h = let same : s ≡ next = cc h in subst (Holds text next) (sym (append-nil done)) (subst (λ (n : State). Holds text n done) same holds)
+pieces_hold text s next done (piece ∷ pieces) holds h = by_piece (λ n one is. pieces_hold text n next (done ++ piece ∷ []) pieces one is) (with_piece text s piece) refl h
+  where
+    by_piece : ((n : State) → Holds text n (done ++ piece ∷ []) → with_pieces text n pieces ≡ Ok next → Holds text next ((done ++ piece ∷ []) ++ pieces)) → (r : Result State ErbFault) → with_piece text s piece ≡ r
+        → and_then r (λ n. with_pieces text n pieces) ≡ Ok next → Holds text next (done ++ piece ∷ pieces)
+    by_piece more (Ok n) one is = subst (Holds text next) (append_assoc done (piece ∷ []) pieces) (more n (piece_holds text s n done piece holds one) is)
+    by_piece more (Err fault) one is = absurd (cc is)
+
+start_holds : (text : List ℕ) → Holds text (state [] [] [] 0) []
+start_holds text = record { before = []; inside = []; left = 64; start = 0; parts = refl; context = (refl, refl, refl); nodes = nothing 64 0 }
+
+ended_found : (text : List ℕ) (pieces : List Tag) (tree : List Node) (s : State) → cut_of text ≡ Ok pieces → Holds text s pieces → at_end s.frames s ≡ Ok tree → IsTemplate text tree
+ended_found text pieces tree s is_cut holds h = by_frames s.frames holds.context h
+  where
+    by_frames : (fs : List Frame) → Context text fs holds.before holds.left holds.start → at_end fs s ≡ Ok tree → IsTemplate text tree
+    by_frames [] c is =
+        let all : pieces ≡ holds.inside = holds.parts ∙ ap (λ (ts : List Tag). ts ++ holds.inside) c.0 in
+        let same : body_of s ≡ tree = cc is in
+        record {
+          pieces = holds.inside;
+          before = s.nodes;
+          bytes = s.bytes;
+          after = s.number;
+          is_cut = is_cut ∙ ap Ok all;
+          makes = subst (λ (n : ℕ). Nodes text n 0 holds.inside s.nodes s.bytes s.number) c.1 (subst (λ (n : ℕ). Nodes text holds.left n holds.inside s.nodes s.bytes s.number) c.2 holds.nodes);
+          is = sym same;
+        }
+    by_frames (f ∷ fs) c is = absurd (cc is)
+
+pieces_found : (text : List ℕ) (pieces : List Tag) (tree : List Node) → cut_of text ≡ Ok pieces → whole text pieces ≡ Ok tree → IsTemplate text tree
+unfolding whole
+pieces_found text pieces tree is_cut h = by_state (with_pieces text (state [] [] [] 0) pieces) refl h
+  where
+    by_state : (r : Result State ErbFault) → with_pieces text (state [] [] [] 0) pieces ≡ r → and_then r (λ s. at_end s.frames s) ≡ Ok tree → IsTemplate text tree
+    by_state (Ok s) is same = ended_found text pieces tree s is_cut (pieces_hold text (state [] [] [] 0) s [] pieces (start_holds text) is) same
+    by_state (Err fault) is same = absurd (cc same)
+
+pub text_found : (text : List ℕ) (tree : List Node) → tree_of text ≡ Ok tree → IsTemplate text tree
+unfolding tree_of
+text_found text tree h = by_cut (cut_of text) refl h
+  where
+    by_cut : (r : Result (List Tag) ErbFault) → cut_of text ≡ r → and_then r (whole text) ≡ Ok tree → IsTemplate text tree
+    by_cut (Ok pieces) is same = pieces_found text pieces tree is same
+    by_cut (Err fault) is same = absurd (cc same)
+
+-- ---- the clauses
+
+pub template_found : (text : List ℕ) (r : Result (List Node) ErbFault) → Gives Memory (tree_of text) r → IfOk r (λ tree. IsTemplate text tree)
+template_found text (Ok tree) given = text_found text tree given
+template_found text (Err fault) given = tt
+
+pub template_only : (text : List ℕ) (r : Result (List Node) ErbFault) (tree : List Node) → Gives Memory (tree_of text) r → IsTemplate text tree → Gives Memory (Ok tree) r
+template_only text r tree given is = subst (λ (o : Result (List Node) ErbFault). Gives Memory o r) (text_only text tree is) given
+
+pub one_tree : OneTree
+one_tree text one other is also = let same : Ok one ≡ Ok other = sym (text_only text one is) ∙ text_only text other also in cc same

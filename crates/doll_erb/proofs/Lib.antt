@@ -1,14 +1,9 @@
 pub mod Places
 pub mod Cuts
-pub mod Blocks
-pub mod BlockParts
 pub mod Expressions
 pub mod Items
 pub mod Shapes
 pub mod Tags
-pub mod GrammarSteps
-pub mod GrammarOnly
-pub mod GrammarFound
-pub mod GrammarClauses
 pub mod TagFaults
+pub mod Blocks
 pub mod FirstFault

@@ -6,4 +6,4 @@ pub mod Tags
 pub mod Trees
 pub mod Grammar
 pub mod Faults
-pub mod Parts
+pub mod Readings

@@ -1,6 +1,7 @@
 //! Templates: texts and tags, and the tree that they make.
 #![tactic(auto)]
 
+mod frame;
 mod key;
 mod mark;
 pub mod node;

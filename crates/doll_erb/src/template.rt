@@ -1,20 +1,17 @@
 //! Reading a template into its tree.
 
-ghost use Rattle.std.specs.Prelude.{◌≡◌, ◌≤◌, ◌<◌, ◌+◌, ◌^◌, ◌++◌, List, length, drop, IfOk, IfSome, OnOk, MatchResult, Ok, Err};
-ghost use Rattle.doll_text.specs.Gives.{Gives, GivesBy};
+ghost use Rattle.std.specs.Prelude.{◌≡◌, ◌≤◌, ◌<◌, ◌+◌, ◌^◌, ◌∷◌, ◌++◌, [], List, length, reverse, IfOk, OnOk, MatchOption, Ok};
+ghost use Rattle.doll_text.specs.Gives.{Gives, GivesBy, GivesExactly};
 ghost use Rattle.doll_erb.specs.declared.node.ErbFault.TheVariants.{Memory};
-ghost use Rattle.doll_erb.specs.declared.node.Node.{Node, roll-Node};
-ghost use Rattle.doll_erb.specs.declared.node.Node.TheOpen.{Node-F};
-ghost use Rattle.doll_erb.specs.Grammar.{BeginsWithTag, IsTemplate, OneTree};
+ghost use Rattle.doll_erb.specs.declared.node.Node.{Node};
+ghost use Rattle.doll_erb.specs.Grammar.{IsTemplate, OneTree};
 ghost use Rattle.doll_erb.specs.Tags.{TagsAreSentences};
 ghost use Rattle.doll_erb.specs.Faults.{Faults};
 ghost use Rattle.doll_erb.specs.Trees as spec;
-ghost use Rattle.doll_erb.specs.Trees.{Open};
-ghost use Rattle.doll_erb.specs.Parts as parts;
-ghost use Rattle.doll_erb.specs.Parts.{IsRest};
+ghost use Rattle.doll_erb.specs.Readings.{state_of, GivesState};
 
+use crate::frame::Frame;
 use crate::node::{Arm, Arms, ErbFault, Node, Tree};
-use crate::partial::dependency_of;
 use crate::piece::{Tag, TagKind, cut};
 use crate::role::{Closing, Opening, Role};
 use crate::tag::role_of;
@@ -22,41 +19,15 @@ use doll_expr::{Expr, ExprFault, Items, Text};
 use std::alloc::{AllocError, Global};
 
 /// How many blocks may be open at once.
-const MOST_OPEN: u32 = 64;
+const MOST_OPEN: usize = 64;
 
-/// A block, the number of the next cache tag, and the pieces behind it.
+/// What was read so far: the open blocks, the innermost last, the nodes and the text in that, and the number of the next cache tag.
 #[derive(Drop)]
-struct Block<'a> {
-    node: Node,
+struct Reading {
+    frames: Items<Frame>,
+    nodes: Tree,
+    bytes: Vec<u8>,
     number: u32,
-    rest: &'a [Tag],
-}
-
-/// The last part of a block, the number of the next cache tag, and the pieces behind the block.
-#[derive(Drop)]
-struct Body<'a> {
-    tree: Tree,
-    number: u32,
-    rest: &'a [Tag],
-}
-
-/// A part of a block up to the tag that ends it, or to the template's end.
-#[derive(Drop)]
-struct Part<'a> {
-    tree: Tree,
-    /// Where that tag is, and what it is.
-    closing: Option<(u32, Closing)>,
-    number: u32,
-    rest: &'a [Tag],
-}
-
-/// What a tag comes to.
-#[derive(Drop)]
-enum Found<'a> {
-    /// A node, a block among them, or nothing; with the number of the next cache tag and the pieces behind it.
-    Made(Option<Node>, u32, &'a [Tag]),
-    /// It ends a part of the block that it stands in; with its place and the pieces behind it.
-    Closes(u32, Closing, &'a [Tag]),
 }
 
 /// The tree of a template, or its first fault. The faults of the cut come first; of the others the first in the text, and at
@@ -91,114 +62,74 @@ fn read_template(alloc: Global, text: &str) -> Result<Tree, ErbFault>
     ensures { Gives ErbFault.Memory (spec.tree_of text.now) result }
 {
     let tags = cut(alloc, text)?;
-    let part = read_part(alloc, text.as_bytes(), MOST_OPEN, 0, tags.as_slice())?;
-    match part.closing {
-        None => Ok(part.tree),
-        Some((at, _)) => Err(ErbFault::StrayEnd { at }),
-    }
+    let reading = read_pieces(alloc, text.as_bytes(), tags.as_slice())?;
+    at_end(reading)
 }
 
-/// The bytes of a template between two places.
-fn between(text: &[u8], from: u32, to: u32) -> &[u8]
-    ensures value { result.now ≡ spec.between text.now from to }
-    ensures within { length result.now ≤ length text.now }
+/// What all pieces come to.
+#[tactic(auto, unfolding(crate::specs::Trees::with_pieces))]
+fn read_pieces(alloc: Global, text: &[u8], tags: &[Tag]) -> Result<Reading, ErbFault>
+    requires fits { length text.now ≤ 262144 }
+    requires numbers { length tags.now < 2 ^ 32 }
+    ensures { GivesState (spec.with_pieces text.now (spec.state [] [] [] 0) tags.now) result }
 {
-    let (_before, rest) = text.split_at(std::cmp::min(from as usize, text.len()));
-    let len = to.saturating_sub(from) as usize;
-    let (part, _after) = rest.split_at(std::cmp::min(len, rest.len()));
-    part
-}
-
-fn content_of<'a>(text: &'a [u8], tag: &Tag) -> &'a [u8]
-    ensures value { result.now ≡ spec.content_of text.now tag.now }
-    ensures within { length result.now ≤ length text.now }
-{
-    between(text, tag.content.from, tag.content.to)
-}
-
-/// Whether a piece is a text, or a comment that gives nothing.
-#[tactic(auto, unfolding(crate::specs::Trees::is_plain))]
-fn is_plain(text: &[u8], tag: &Tag) -> bool
-    ensures { result ≡ spec.is_plain text.now tag.now }
-{
-    match tag.kind {
-        TagKind::Text => true,
-        TagKind::Comment => dependency_of(content_of(text, tag)).is_none(),
-        TagKind::Write | TagKind::Raw | TagKind::Run => false,
-    }
-}
-
-/// What a piece writes as it stands.
-#[tactic(auto, unfolding(crate::specs::Trees::text_of))]
-fn text_of<'a>(text: &'a [u8], tag: &Tag) -> &'a [u8]
-    ensures { result.now ≡ spec.text_of text.now tag.now }
-{
-    match tag.kind {
-        TagKind::Text => content_of(text, tag),
-        TagKind::Comment | TagKind::Write | TagKind::Raw | TagKind::Run => &[],
-    }
-}
-
-/// The text at the front of pieces, also round comments that give nothing, and the pieces behind it.
-fn front_text<'a>(
-    alloc: Global,
-    text: &[u8],
-    tags: &'a [Tag],
-) -> Result<(Vec<u8>, &'a [Tag]), AllocError>
-    ensures text { IfOk result (λ x. x.0.items ≡ spec.front_text text.now tags.now) }
-    ensures rest { IfOk result (λ x. x.1.now ≡ drop (spec.front_len text.now tags.now) tags.now) }
-    ensures shorter { IfOk result (λ x. length x.1.now ≤ length tags.now) }
-    ensures stops { IfOk result (λ x. BeginsWithTag text.now x.1.now) }
-{
-    let mut bytes = Vec::new(alloc);
+    let mut reading = Reading {
+        frames: Items::new(alloc),
+        nodes: Items::new(alloc),
+        bytes: Vec::new(alloc),
+        number: 0,
+    };
     let mut rest = tags;
     while let Some((tag, more)) = rest.split_first() {
-        if !is_plain(text, tag) {
-            return Ok((bytes, rest));
-        }
-        bytes.extend_from_slice(text_of(text, tag))?;
+        reading = with_piece(alloc, text, reading, tag)?;
         rest = more;
     }
-    Ok((bytes, rest))
+    Ok(reading)
 }
 
-/// Adds a text to a tree. An empty text is no node.
-fn push_text(tree: &mut Tree, bytes: Vec<u8>) -> Result<(), AllocError>
-    ensures { OnOk result (tree.new ≡ tree.old ++ spec.text_nodes bytes.items) }
+/// The tree, where no block is open at the text's end.
+fn at_end(reading: Reading) -> Result<Tree, ErbFault>
+    ensures { Gives ErbFault.Memory (spec.at_end (reverse reading.frames) (state_of reading)) result }
 {
-    if !bytes.is_empty() {
-        tree.push(Node::Text(Text::from_vec(bytes)))?;
-    }
-    Ok(())
-}
-
-fn push_node(tree: &mut Tree, node: Option<Node>) -> Result<(), AllocError>
-    ensures { OnOk result (tree.new ≡ tree.old ++ parts.maybe_node node) }
-{
-    if let Some(node) = node {
-        tree.push(node)?;
-    }
-    Ok(())
-}
-
-/// An `if` by its arms and its last part.
-fn if_block<'a>(at: u32, arms: Arms, last: Body<'a>) -> Block<'a>
-    ensures node { result.node ≡ roll-Node (Node-F.If at arms last.entry.tree) }
-    ensures number { result.number ≡ last.entry.number }
-    ensures rest { result.rest ≡ last.entry.rest }
-{
-    Block {
-        node: Node::If {
-            at,
-            arms,
-            otherwise: last.tree,
-        },
-        number: last.number,
-        rest: last.rest,
+    let mut frames = reading.frames;
+    match take_frame(&mut frames) {
+        None => Ok(with_text(reading.nodes, reading.bytes)?),
+        Some(innermost) => Err(ErbFault::MissingEnd {
+            at: place_of(&innermost),
+        }),
     }
 }
 
-/// What a tag does. A fault in it is told with its place.
+/// The place of an open block's tag.
+fn place_of(frame: &Frame) -> u32
+    ensures { result ≡ spec.place_of frame.now }
+{
+    match frame {
+        Frame::If { at, .. } => *at,
+        Frame::Else { at, .. } => *at,
+        Frame::Each { at, .. } => *at,
+        Frame::Cache { at, .. } => *at,
+    }
+}
+
+/// What was read with a piece more.
+#[tactic(auto, unfolding(crate::specs::Trees::with_piece))]
+fn with_piece(alloc: Global, text: &[u8], reading: Reading, tag: &Tag) -> Result<Reading, ErbFault>
+    requires fits { length text.now ≤ 262144 }
+    requires numbers { reading.number + 1 < 2 ^ 32 }
+    ensures value { GivesState (spec.with_piece text.now (state_of reading) tag.now) result }
+    ensures numbers { IfOk result (λ r. r.number ≤ reading.number + 1) }
+{
+    let at = tag.span.from;
+    match role_in(alloc, text, tag)? {
+        Role::Nothing => Ok(with_bytes(reading, text_of(text, tag))?),
+        Role::Leaf(node) => Ok(with_node(alloc, reading, node)?),
+        Role::Opens(what) => opened(alloc, reading, at, what),
+        Role::Closes(what) => closed(alloc, reading, at, what),
+    }
+}
+
+/// What a piece does. A fault in it is told with its place.
 #[tactic(auto, unfolding(crate::specs::Trees::role_in))]
 fn role_in(alloc: Global, text: &[u8], tag: &Tag) -> Result<Role, ErbFault>
     requires { length text.now ≤ 262144 }
@@ -212,210 +143,319 @@ fn role_in(alloc: Global, text: &[u8], tag: &Tag) -> Result<Role, ErbFault>
     }
 }
 
-/// What stands in a block up to the tag that ends this part of it. `left` more blocks may be open in it, and `number` is
-/// that of the next cache tag.
-#[cycle(blocks)]
-fn read_part<'a>(
-    alloc: Global,
-    text: &[u8],
-    left: u32,
-    number: u32,
-    tags: &'a [Tag],
-) -> Result<Part<'a>, ErbFault>
-    requires fits { length text.now ≤ 262144 }
-    requires numbers { number + length tags.now < 2 ^ 32 }
-    ensures value { MatchResult result
-        (λ x. (innermost : Open) → spec.content_from text.now (spec.block_of text.now left) innermost 0 number tags.now ≡ spec.before x.tree (parts.from_closing text.now (spec.block_of text.now left) innermost x.closing x.number x.rest.now))
-        (λ e. (e ≡ Memory → ⊥) → (innermost : Open) → spec.content_from text.now (spec.block_of text.now left) innermost 0 number tags.now ≡ Err e) }
-    ensures rest { IfOk result (λ x. IsRest number tags.now x.number x.rest.now) }
-    ensures forward { IfOk result (λ x. IfSome x.closing (λ _. length x.rest.now < length tags.now)) }
+fn content_of<'a>(text: &'a [u8], tag: &Tag) -> &'a [u8]
+    ensures value { result.now ≡ spec.content_of text.now tag.now }
+    ensures within { length result.now ≤ length text.now }
 {
-    let mut tree = Items::new(alloc);
-    let mut next = number;
-    let mut rest = tags;
-    'pieces: loop {
-        let (bytes, ahead) = front_text(alloc, text, rest)?;
-        push_text(&mut tree, bytes)?;
-        let Some((tag, more)) = ahead.split_first() else {
-            return Ok(Part {
-                tree,
-                closing: None,
-                number: next,
-                rest: ahead,
-            });
-        };
-        match read_tag(alloc, text, left, next, tag, more)? {
-            Found::Made(node, after, behind) => {
-                push_node(&mut tree, node)?;
-                next = after;
-                rest = behind;
-            }
-            Found::Closes(at, closing, behind) => {
-                return Ok(Part {
-                    tree,
-                    closing: Some((at, closing)),
-                    number: next,
-                    rest: behind,
-                });
-            }
-        }
+    between(text, tag.content.from, tag.content.to)
+}
+
+/// The bytes of a template between two places.
+fn between(text: &[u8], from: u32, to: u32) -> &[u8]
+    ensures value { result.now ≡ spec.between text.now from to }
+    ensures within { length result.now ≤ length text.now }
+{
+    let (_before, rest) = text.split_at(std::cmp::min(from as usize, text.len()));
+    let len = to.saturating_sub(from) as usize;
+    let (part, _after) = rest.split_at(std::cmp::min(len, rest.len()));
+    part
+}
+
+/// What a piece writes as it stands.
+#[tactic(auto, unfolding(crate::specs::Trees::text_of))]
+fn text_of<'a>(text: &'a [u8], tag: &Tag) -> &'a [u8]
+    ensures { result.now ≡ spec.text_of text.now tag.now }
+{
+    match tag.kind {
+        TagKind::Text => content_of(text, tag),
+        TagKind::Comment | TagKind::Write | TagKind::Raw | TagKind::Run => &[],
     }
 }
 
-/// What a tag comes to, by the pieces behind it.
-#[cycle(blocks)]
-fn read_tag<'a>(
-    alloc: Global,
-    text: &[u8],
-    left: u32,
-    number: u32,
-    tag: &Tag,
-    tags: &'a [Tag],
-) -> Result<Found<'a>, ErbFault>
-    requires fits { length text.now ≤ 262144 }
-    requires numbers { number + length tags.now + 1 < 2 ^ 32 }
-    ensures value { parts.GivesFound text.now (spec.block_of text.now left) tag.now number tags.now result }
-    ensures rest { IfOk result (parts.found_rest number tags.now) }
+/// Nodes, and the text that stands behind them. An empty text is no node.
+fn with_text(nodes: Tree, bytes: Vec<u8>) -> Result<Tree, AllocError>
+    ensures { IfOk result (λ tree. tree ≡ spec.with_text nodes bytes.items) }
 {
-    match role_in(alloc, text, tag)? {
-        Role::Nothing => Ok(Found::Made(None, number, tags)),
-        Role::Leaf(node) => Ok(Found::Made(Some(node), number, tags)),
-        Role::Opens(opening) => {
-            let made = read_block(alloc, text, left, number, tag.span.from, opening, tags)?;
-            Ok(Found::Made(Some(made.node), made.number, made.rest))
-        }
-        Role::Closes(closing) => Ok(Found::Closes(tag.span.from, closing, tags)),
+    let mut tree = nodes;
+    if !bytes.is_empty() {
+        tree.push(Node::Text(Text::from_vec(bytes)))?;
     }
+    Ok(tree)
 }
 
-/// The block that a tag opens, by the pieces behind the tag.
-#[cycle(blocks)]
-fn read_block<'a>(
-    alloc: Global,
-    text: &[u8],
-    left: u32,
-    number: u32,
-    at: u32,
-    opening: Opening,
-    tags: &'a [Tag],
-) -> Result<Block<'a>, ErbFault>
-    requires fits { length text.now ≤ 262144 }
-    requires numbers { number + length tags.now + 1 < 2 ^ 32 }
-    ensures value { GivesBy (λ x. (x.node, x.number, x.rest.now)) Memory (parts.block_read text.now left number at opening tags.now) result }
-    ensures rest { IfOk result (λ x. IsRest (number + 1) tags.now x.number x.rest.now) }
+fn with_bytes(reading: Reading, more: &[u8]) -> Result<Reading, AllocError>
+    ensures value { IfOk result (λ r. state_of r ≡ spec.state (reverse reading.frames) reading.nodes (reading.bytes.items ++ more.now) reading.number) }
+    ensures number { IfOk result (λ r. r.number ≡ reading.number) }
 {
-    if left == 0 {
+    let mut reading = reading;
+    reading.bytes.extend_from_slice(more)?;
+    Ok(reading)
+}
+
+fn with_node(alloc: Global, reading: Reading, node: Node) -> Result<Reading, AllocError>
+    ensures value { IfOk result (λ r. state_of r ≡ spec.state (reverse reading.frames) (spec.with_text reading.nodes reading.bytes.items ++ node ∷ []) [] reading.number) }
+    ensures number { IfOk result (λ r. r.number ≡ reading.number) }
+{
+    let mut nodes = with_text(reading.nodes, reading.bytes)?;
+    nodes.push(node)?;
+    Ok(Reading {
+        frames: reading.frames,
+        nodes,
+        bytes: Vec::new(alloc),
+        number: reading.number,
+    })
+}
+
+/// Takes the innermost block.
+fn take_frame(frames: &mut Items<Frame>) -> Option<Frame>
+    ensures { MatchOption result (reverse frames.old ≡ []) (λ frame. reverse frames.old ≡ frame ∷ reverse frames.new) }
+{
+    frames.pop()
+}
+
+/// Adds a block, the innermost from now on.
+fn put_frame(frames: &mut Items<Frame>, frame: Frame) -> Result<(), AllocError>
+    ensures { OnOk result (reverse frames.new ≡ frame ∷ reverse frames.old) }
+{
+    frames.push(frame)?;
+    Ok(())
+}
+
+/// A block more, unless it would be the 65th that is open at once.
+fn opened(alloc: Global, reading: Reading, at: u32, what: Opening) -> Result<Reading, ErbFault>
+    requires { reading.number + 1 < 2 ^ 32 }
+    ensures value { GivesState (spec.opened (state_of reading) at what) result }
+    ensures numbers { IfOk result (λ r. r.number ≤ reading.number + 1) }
+{
+    if reading.frames.len() >= MOST_OPEN {
         return Err(ErbFault::TooDeep { at });
     }
-    match opening {
-        Opening::If(test) => read_if(alloc, text, left - 1, number, at, test, tags),
-        Opening::Each { list, name } => {
-            let body = read_body(alloc, text, left - 1, number, at, tags)?;
-            Ok(Block {
-                node: Node::Each {
-                    at,
-                    list,
-                    name,
-                    body: body.tree,
-                },
-                number: body.number,
-                rest: body.rest,
-            })
-        }
-        Opening::Cache(key) => {
-            let body = read_body(alloc, text, left - 1, number + 1, at, tags)?;
-            Ok(Block {
-                node: Node::Cache {
-                    at,
-                    block: number,
-                    key,
-                    body: body.tree,
-                },
-                number: body.number,
-                rest: body.rest,
-            })
-        }
+    let mut frames = reading.frames;
+    let outer = with_text(reading.nodes, reading.bytes)?;
+    let number = number_in(reading.number, &what);
+    put_frame(&mut frames, frame_of(alloc, at, reading.number, what, outer))?;
+    Ok(Reading {
+        frames,
+        nodes: Items::new(alloc),
+        bytes: Vec::new(alloc),
+        number,
+    })
+}
+
+/// The number of the next cache tag behind a tag.
+fn number_in(number: u32, what: &Opening) -> u32
+    requires { number + 1 < 2 ^ 32 }
+    ensures value { result ≡ spec.number_in number what.now }
+    ensures few { result ≤ number + 1 }
+{
+    match what {
+        Opening::If(_) => number,
+        Opening::Each { .. } => number,
+        Opening::Cache(_) => number + 1,
     }
 }
 
-/// What stands in a block whose tag is at `at`, where nothing but `end` may close it.
-#[cycle(blocks)]
-fn read_body<'a>(
+/// A block that a tag opens behind these nodes.
+fn frame_of(alloc: Global, at: u32, number: u32, what: Opening, outer: Tree) -> Frame
+    ensures { result ≡ spec.frame_of at number what outer }
+{
+    match what {
+        Opening::If(test) => Frame::If {
+            at,
+            arms: Items::new(alloc),
+            arm_at: at,
+            test,
+            outer,
+        },
+        Opening::Each { list, name } => Frame::Each {
+            at,
+            list,
+            name,
+            outer,
+        },
+        Opening::Cache(key) => Frame::Cache {
+            at,
+            number,
+            key,
+            outer,
+        },
+    }
+}
+
+/// The end of a part of the innermost block.
+fn closed(alloc: Global, reading: Reading, at: u32, what: Closing) -> Result<Reading, ErbFault>
+    ensures value { GivesState (spec.closed_in (reverse reading.frames) (state_of reading) at what) result }
+    ensures numbers { IfOk result (λ r. r.number ≡ reading.number) }
+{
+    let mut frames = reading.frames;
+    let Some(innermost) = take_frame(&mut frames) else {
+        return Err(ErbFault::StrayEnd { at });
+    };
+    let body = with_text(reading.nodes, reading.bytes)?;
+    part_ended(alloc, frames, innermost, body, reading.number, at, what)
+}
+
+/// The end of a part of a block, by what stands in it.
+fn part_ended(
     alloc: Global,
-    text: &[u8],
-    left: u32,
+    frames: Items<Frame>,
+    innermost: Frame,
+    body: Tree,
     number: u32,
     at: u32,
-    tags: &'a [Tag],
-) -> Result<Body<'a>, ErbFault>
-    requires fits { length text.now ≤ 262144 }
-    requires numbers { number + length tags.now < 2 ^ 32 }
-    ensures value { GivesBy (λ x. (x.tree, x.number, x.rest.now)) Memory (parts.body_read text.now left number at tags.now) result }
-    ensures rest { IfOk result (λ x. IsRest number tags.now x.number x.rest.now) }
+    what: Closing,
+) -> Result<Reading, ErbFault>
+    ensures value { GivesState (spec.part_ended innermost (reverse frames) body number at what) result }
+    ensures numbers { IfOk result (λ r. r.number ≡ number) }
 {
-    let part = read_part(alloc, text, left, number, tags)?;
-    match part.closing {
-        None => Err(ErbFault::MissingEnd { at }),
-        Some((_, Closing::End)) => Ok(Body {
-            tree: part.tree,
-            number: part.number,
-            rest: part.rest,
+    match what {
+        Closing::Elsif(test) => {
+            let next = elsif_frame(innermost, at, test, body)?;
+            inside(alloc, frames, next, number)
+        }
+        Closing::Else => {
+            let next = else_frame(innermost, at, body)?;
+            inside(alloc, frames, next, number)
+        }
+        Closing::End => Ok(Reading {
+            frames,
+            nodes: nodes_with(alloc, innermost, body)?,
+            bytes: Vec::new(alloc),
+            number,
         }),
-        Some((stray, Closing::Else)) => Err(ErbFault::StrayEnd { at: stray }),
-        Some((stray, Closing::Elsif(_))) => Err(ErbFault::StrayEnd { at: stray }),
     }
 }
 
-/// The `if` whose tag is at `at`, by its first test and the pieces behind the tag.
-#[cycle(blocks)]
-fn read_if<'a>(
-    alloc: Global,
-    text: &[u8],
-    left: u32,
-    number: u32,
-    at: u32,
-    test: Expr,
-    tags: &'a [Tag],
-) -> Result<Block<'a>, ErbFault>
-    requires fits { length text.now ≤ 262144 }
-    requires numbers { number + length tags.now < 2 ^ 32 }
-    ensures value { GivesBy (λ x. (x.node, x.number, x.rest.now)) Memory (parts.if_read text.now left number at test tags.now) result }
-    ensures rest { IfOk result (λ x. IsRest number tags.now x.number x.rest.now) }
+/// What was read where a part begins.
+fn inside(alloc: Global, frames: Items<Frame>, next: Frame, number: u32) -> Result<Reading, ErbFault>
+    ensures value { GivesState (Ok (spec.state (next ∷ reverse frames) [] [] number)) result }
+    ensures numbers { IfOk result (λ r. r.number ≡ number) }
 {
-    let mut arms = Items::new(alloc);
-    let mut arm_at = at;
-    let mut arm_test = test;
-    let mut next = number;
-    let mut rest = tags;
-    'arms: loop {
-        let part = read_part(alloc, text, left, next, rest)?;
-        arms.push(Arm {
-            at: arm_at,
-            test: arm_test,
-            body: part.tree,
-        })?;
-        next = part.number;
-        rest = part.rest;
-        let Some((place, closing)) = part.closing else {
-            return Err(ErbFault::MissingEnd { at });
-        };
-        match closing {
-            Closing::Elsif(test) => {
-                arm_at = place;
-                arm_test = test;
-            }
-            Closing::Else => {
-                let last = read_body(alloc, text, left, next, at, rest)?;
-                return Ok(if_block(at, arms, last));
-            }
-            Closing::End => {
-                let last = Body {
-                    tree: Items::new(alloc),
-                    number: next,
-                    rest,
-                };
-                return Ok(if_block(at, arms, last));
-            }
+    let mut frames = frames;
+    put_frame(&mut frames, next)?;
+    Ok(Reading {
+        frames,
+        nodes: Items::new(alloc),
+        bytes: Vec::new(alloc),
+        number,
+    })
+}
+
+/// An `if` that has a further arm.
+fn elsif_frame(frame: Frame, place: u32, next: Expr, body: Tree) -> Result<Frame, ErbFault>
+    ensures { Gives ErbFault.Memory (spec.at_elsif frame place next body) result }
+{
+    match frame {
+        Frame::If {
+            at,
+            mut arms,
+            arm_at,
+            test,
+            outer,
+        } => {
+            arms.push(Arm {
+                at: arm_at,
+                test,
+                body,
+            })?;
+            Ok(Frame::If {
+                at,
+                arms,
+                arm_at: place,
+                test: next,
+                outer,
+            })
+        }
+        _ => Err(ErbFault::StrayEnd { at: place }),
+    }
+}
+
+/// The last part of an `if`.
+fn else_frame(frame: Frame, place: u32, body: Tree) -> Result<Frame, ErbFault>
+    ensures { Gives ErbFault.Memory (spec.at_else frame place body) result }
+{
+    match frame {
+        Frame::If {
+            at,
+            mut arms,
+            arm_at,
+            test,
+            outer,
+        } => {
+            arms.push(Arm {
+                at: arm_at,
+                test,
+                body,
+            })?;
+            Ok(Frame::Else { at, arms, outer })
+        }
+        _ => Err(ErbFault::StrayEnd { at: place }),
+    }
+}
+
+/// The nodes before a block and the block, by its last part.
+fn nodes_with(alloc: Global, frame: Frame, body: Tree) -> Result<Tree, AllocError>
+    ensures { IfOk result (λ tree. tree ≡ spec.nodes_with frame body) }
+{
+    match frame {
+        Frame::If {
+            at,
+            mut arms,
+            arm_at,
+            test,
+            mut outer,
+        } => {
+            arms.push(Arm {
+                at: arm_at,
+                test,
+                body,
+            })?;
+            outer.push(Node::If {
+                at,
+                arms,
+                otherwise: Items::new(alloc),
+            })?;
+            Ok(outer)
+        }
+        Frame::Else {
+            at,
+            arms,
+            mut outer,
+        } => {
+            outer.push(Node::If {
+                at,
+                arms,
+                otherwise: body,
+            })?;
+            Ok(outer)
+        }
+        Frame::Each {
+            at,
+            list,
+            name,
+            mut outer,
+        } => {
+            outer.push(Node::Each {
+                at,
+                list,
+                name,
+                body,
+            })?;
+            Ok(outer)
+        }
+        Frame::Cache {
+            at,
+            number,
+            key,
+            mut outer,
+        } => {
+            outer.push(Node::Cache {
+                at,
+                block: number,
+                key,
+                body,
+            })?;
+            Ok(outer)
         }
     }
 }

@@ -1,4 +1,4 @@
-use Rattle.doll_erb.proofs.GrammarOnly as law
+use Rattle.doll_erb.proofs.Blocks as law
 use Rattle.doll_erb.proofs.template.one_tree.Goals as goal
 
 pub returns : goal.returns

@@ -1,4 +1,4 @@
-use Rattle.doll_erb.proofs.GrammarClauses.{template_found, template_only}
+use Rattle.doll_erb.proofs.Blocks.{template_found, template_only}
 use Rattle.doll_erb.proofs.FirstFault.{template_faults}
 use Rattle.doll_erb.proofs.template.parse_template.Goals as goal
 
