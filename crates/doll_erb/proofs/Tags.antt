@@ -18,7 +18,7 @@ use Rattle.doll_erb.specs.declared.render.Listed.{Listed}
 use Rattle.doll_erb.specs.declared.piece.TagKind.{TagKind}
 use Rattle.doll_erb.specs.declared.piece.TagKind.TheVariants as tag
 use Rattle.doll_erb.specs.Shapes.{the_mark, the_word, is_fixed, Shape, Says, reads, IsFirstFault}
-use Rattle.doll_erb.specs.Tags.{keyed, closed, parts, cache, each, run, locals, cached, named_item, options, collected, rendered, write, raw, role_of, ComesTo, IsTag, HasFault, IsTagFault, TagsAreSentences}
+use Rattle.doll_erb.specs.Tags.{keyed, closed, parts, listed_key, cache, each, run, locals, cached, named_item, options, collected, rendered, write, raw, role_of, ComesTo, IsTag, HasFault, IsTagFault, TagsAreSentences}
 use Rattle.doll_erb.proofs.Expressions.{end, EndsValue}
 use Rattle.doll_erb.proofs.Items.{own_fixed}
 use Rattle.doll_erb.proofs.Shapes.{Starts, Sound, sentence_read, Halts, read_law}
@@ -42,7 +42,7 @@ parts_sound (suc n) key = (
 )
 
 cache_sound : Sound cache
-unfolding cache
+unfolding cache listed_key
 cache_sound =
     ((λ places at. refl), (tt, λ a. ((parts_sound 7 (a ∷ [])).1, (parts_sound 7 (a ∷ [])).0)), (tt, λ a. ((keyed_sound (a ∷ [])).1, (keyed_sound (a ∷ [])).0)), λ t ts opens. opens)
 

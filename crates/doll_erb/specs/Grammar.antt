@@ -1,6 +1,9 @@
 -- The grammar of blocks: which pieces of a template make which tree (this project's own, after ERB).
-use Rattle.std.specs.Prelude.{ℕ, suc, ◌+◌, ◌≡◌, List, [], ◌∷◌, ◌++◌, Ok}
+use Rattle.std.specs.Prelude.{ℕ, suc, ◌+◌, ◌≡◌, List, [], ◌∷◌, ◌++◌, Result, Ok}
+use Rattle.doll_text.specs.Gives.{Gives}
 use Rattle.doll_expr.specs.declared.expr.Expr.{Expr}
+use Rattle.doll_erb.specs.declared.node.ErbFault.{ErbFault}
+use Rattle.doll_erb.specs.declared.node.ErbFault.TheVariants.{Memory}
 use Rattle.doll_erb.specs.declared.node.Node.{Node, roll-Node}
 use Rattle.doll_erb.specs.declared.node.Node.TheOpen.{Node-F}
 use Rattle.doll_erb.specs.declared.node.Arm.{Arm}
@@ -89,6 +92,10 @@ pub record IsTemplate (text : List ℕ) (tree : List Node) : Type 0 where
   pub is_cut : cut_of text ≡ Ok pieces
   pub makes : Makes text 64 0 pieces (Made.nodes before bytes) after
   pub is : tree ≡ with_text before bytes
+
+-- each tree of the text is the answer, unless memory runs out
+abbrev pub GivesEachTree : List ℕ → Result (List Node) ErbFault → Type 0
+GivesEachTree text result = (tree : List Node) → IsTemplate text tree → Gives Memory (Ok tree) result
 
 -- no text has two trees
 abbrev pub OneTree : Type 0

@@ -7,7 +7,7 @@ use Rattle.doll_expr.specs.declared.expr.ExprFault.TheVariants.{Unexpected, Memo
 use Rattle.doll_expr.specs.declared.token.Mark.TheVariants as mark
 use Rattle.doll_text.specs.declared.words.Word.TheVariants as word
 use Rattle.doll_expr.specs.declared.token.Token.{Token}
-use Rattle.doll_text.specs.Gives.{GivesBy}
+use Rattle.doll_text.specs.Gives.{Gives, GivesBy}
 use Rattle.doll_text.specs.Names.{is_name}
 use Rattle.doll_expr.specs.Tokens.{tokens_of}
 use Rattle.doll_expr.specs.Reading.{◌>>=◌}
@@ -30,6 +30,10 @@ use Rattle.doll_erb.specs.Shapes.{Fixed, Item, Front, local, Shape, behind_mark,
 abbrev pub ReadsTo : {A : Type 0} → Front A → Result (A × Bor (List Token)) ExprFault → Type 0
 ReadsTo expected result = GivesBy (λ x. (x.0, x.1.now)) Memory expected result
 
+-- what a call answered is what the tokens come to by the shape, unless memory ran out
+abbrev pub GivesRole : Shape Role → List Token → Result Role ExprFault → Type 0
+GivesRole shape tokens result = Gives Memory (reads shape tokens) result
+
 -- ---- tags that run: `<% run %>`
 
 -- "do", behind a key
@@ -45,9 +49,13 @@ unfoldable pub parts : ℕ → List KeyPart → Shape Role
 parts zero key = closed key
 parts (suc n) key = Shape.either (Fixed.the_mark mark.Comma) (Shape.then Item.key_part (λ a. parts n (key ++ a ∷ []))) (closed key)
 
+-- part { "," part } and the bracket, behind the first one
+unfoldable pub listed_key : Shape Role
+listed_key = Shape.then Item.key_part (λ a. parts 7 (a ∷ []))
+
 -- key "do" with key = "[" part { "," part } "]" | part; it has at most 8 parts
 unfoldable pub cache : Shape Role
-cache = Shape.either (Fixed.the_mark mark.OpenBracket) (Shape.then Item.key_part (λ a. parts 7 (a ∷ []))) (Shape.then Item.key_part (λ a. keyed (a ∷ [])))
+cache = Shape.either (Fixed.the_mark mark.OpenBracket) listed_key (Shape.then Item.key_part (λ a. keyed (a ∷ [])))
 
 -- list ". each" "do" "|" name "|"
 unfoldable pub each : Shape Role
@@ -97,6 +105,10 @@ item_of at partial None = if is_name (last_segment partial) then Ok (last_segmen
 unfoldable pub collection : ℕ → Listed → Option (List ℕ) → Bool → Result Role ExprFault
 collection at of item cached = item_of of.at of.name item >>= λ name. Ok (leaf (roll-Node (Node-F.Collection at of.name of.list name cached)))
 
+-- the end of a collection's tag
+abbrev pub collection_end : ℕ → Listed → Option (List ℕ) → Bool → Shape Role
+collection_end at of item is_cached = Shape.ends (collection at of item is_cached)
+
 -- "cached" ":" "true"
 unfoldable pub cached : ℕ → Listed → Option (List ℕ) → Shape Role
 cached at of item = behind_word word.Cached (behind_mark mark.Colon (behind_word word.True (Shape.ends (collection at of item true))))
@@ -136,10 +148,14 @@ abbrev pub comment_by : ℕ → Option (List ℕ) → Role
 comment_by at (Some name) = leaf (roll-Node (Node-F.Depends at name))
 comment_by at None = role.Nothing
 
+-- what a comment does
+abbrev pub comment : ℕ → List ℕ → Result Role ExprFault
+comment at content = Ok (comment_by at (dependency_of content))
+
 -- what a tag at a place does, by its kind and its content
 unfoldable pub role_of : ℕ → TagKind → List ℕ → Result Role ExprFault
 role_of at tag.Text content = Ok role.Nothing
-role_of at tag.Comment content = Ok (comment_by at (dependency_of content))
+role_of at tag.Comment content = comment at content
 role_of at tag.Write content = reads (write at) (tokens_of content)
 role_of at tag.Raw content = reads (raw at) (tokens_of content)
 role_of at tag.Run content = reads run (tokens_of content)

@@ -79,6 +79,14 @@ state frames nodes bytes number = record { frames = frames; nodes = nodes; bytes
 abbrev pub body_of : State → List Node
 body_of s = with_text s.nodes s.bytes
 
+-- a text more
+abbrev pub with_bytes : State → List ℕ → State
+with_bytes s more = state s.frames s.nodes (s.bytes ++ more) s.number
+
+-- a node more
+abbrev pub with_node : State → Node → State
+with_node s node = state s.frames (body_of s ++ node ∷ []) [] s.number
+
 -- a block that a tag opens behind these nodes
 abbrev pub frame_of : ℕ → ℕ → Opening → List Node → Frame
 frame_of at number (opening.If test) outer = frame.If at [] at test outer
@@ -124,12 +132,16 @@ abbrev pub closed_in : List Frame → State → ℕ → Closing → Result State
 closed_in [] s at what = Err (StrayEnd at)
 closed_in (innermost ∷ others) s at what = part_ended innermost others (body_of s) s.number at what
 
+-- the end of a part of the innermost block, if one is open
+abbrev pub closed : State → ℕ → Closing → Result State ErbFault
+closed s at what = closed_in s.frames s at what
+
 -- what was read with a piece more, by what it does
 abbrev pub with_role : List ℕ → State → Tag → Role → Result State ErbFault
-with_role text s piece role.Nothing = Ok (state s.frames s.nodes (s.bytes ++ text_of text piece) s.number)
-with_role text s piece (role.Leaf node) = Ok (state s.frames (body_of s ++ node ∷ []) [] s.number)
+with_role text s piece role.Nothing = Ok (with_bytes s (text_of text piece))
+with_role text s piece (role.Leaf node) = Ok (with_node s node)
 with_role text s piece (role.Opens what) = opened s piece.span.from what
-with_role text s piece (role.Closes what) = closed_in s.frames s piece.span.from what
+with_role text s piece (role.Closes what) = closed s piece.span.from what
 
 -- what was read with a piece more
 unfoldable pub with_piece : List ℕ → State → Tag → Result State ErbFault
@@ -154,8 +166,13 @@ abbrev pub at_end : List Frame → State → Result (List Node) ErbFault
 at_end [] s = Ok (body_of s)
 at_end (innermost ∷ others) s = Err (MissingEnd (place_of innermost))
 
+-- the tree, where all is read
+abbrev pub tree_at_end : State → Result (List Node) ErbFault
+tree_at_end s = at_end s.frames s
+
+-- what pieces come to
 unfoldable pub whole : List ℕ → List Tag → Result (List Node) ErbFault
-whole text pieces = and_then (with_pieces text (state [] [] [] 0) pieces) (λ s. at_end s.frames s)
+whole text pieces = and_then (with_pieces text (state [] [] [] 0) pieces) tree_at_end
 
 -- The tree of a template, or its first fault: that of the cut, else the first in the text, of which a block that isn't closed is the last.
 unfoldable pub tree_of : List ℕ → Result (List Node) ErbFault

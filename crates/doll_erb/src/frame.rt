@@ -15,7 +15,11 @@ pub enum Frame {
         outer: Tree,
     },
     /// The last part of an `if`.
-    Else { at: u32, arms: Arms, outer: Tree },
+    Else {
+        at: u32,
+        arms: Arms,
+        outer: Tree,
+    },
     Each {
         at: u32,
         list: Expr,

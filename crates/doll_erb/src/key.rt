@@ -20,7 +20,7 @@ const MORE_PARTS: u8 = 7;
 /// A cached block, behind the word `cache`: its key is a part, or 1 to 8 of them in brackets.
 #[tactic(auto, unfolding(crate::specs::Tags::cache, crate::specs::Shapes::reads, crate::specs::Shapes::item_at))]
 pub(crate) fn cache_of(alloc: Global, tokens: &[Token]) -> Result<Role, ExprFault>
-    ensures { Gives ExprFault.Memory (shapes.reads spec.cache tokens.now) result }
+    ensures { spec.GivesRole spec.cache tokens.now result }
 {
     if is_mark(Mark::OpenBracket, tokens) {
         return list_of(alloc, rest_of(tokens));
@@ -30,9 +30,9 @@ pub(crate) fn cache_of(alloc: Global, tokens: &[Token]) -> Result<Role, ExprFaul
 }
 
 /// The parts behind an opening bracket.
-#[tactic(auto, unfolding(crate::specs::Shapes::reads, crate::specs::Shapes::item_at))]
+#[tactic(auto, unfolding(crate::specs::Tags::listed_key, crate::specs::Shapes::reads, crate::specs::Shapes::item_at))]
 fn list_of(alloc: Global, tokens: &[Token]) -> Result<Role, ExprFault>
-    ensures { Gives ExprFault.Memory (shapes.reads (shapes.Shape.then shapes.Item.key_part (λ a. spec.parts 7 (a ∷ []))) tokens.now) result }
+    ensures { spec.GivesRole spec.listed_key tokens.now result }
 {
     let (part, rest) = part_at(alloc, tokens)?;
     parts_from(alloc, MORE_PARTS, one_part(alloc, part)?, rest)
@@ -50,7 +50,7 @@ fn one_part(alloc: Global, part: KeyPart) -> Result<Key, ExprFault>
 /// At most so many further parts behind those of `key`, and the bracket that closes them.
 #[tactic(auto, unfolding(crate::specs::Tags::parts, crate::specs::Shapes::reads, crate::specs::Shapes::item_at))]
 fn parts_from(alloc: Global, left: u8, mut key: Key, tokens: &[Token]) -> Result<Role, ExprFault>
-    ensures { Gives ExprFault.Memory (shapes.reads (spec.parts left key) tokens.now) result }
+    ensures { spec.GivesRole (spec.parts left key) tokens.now result }
 {
     if left == 0 {
         return closed(key, tokens);

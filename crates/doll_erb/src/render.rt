@@ -30,7 +30,7 @@ pub(crate) struct Listed {
 /// A partial, or a collection of them, behind the word `render`.
 #[tactic(auto, unfolding(crate::specs::Tags::rendered, crate::specs::Shapes::reads, crate::specs::Shapes::item_at))]
 pub(crate) fn rendered(alloc: Global, at: u32, tokens: &[Token]) -> Result<Role, ExprFault>
-    ensures { Gives ExprFault.Memory (shapes.reads (spec.rendered at) tokens.now) result }
+    ensures { spec.GivesRole (spec.rendered at) tokens.now result }
 {
     if is_word(Word::Partial, tokens) {
         return collected(alloc, at, rest_of(tokens));
@@ -49,7 +49,7 @@ fn locals_from(
     mut locals: Locals,
     tokens: &[Token],
 ) -> Result<Role, ExprFault>
-    ensures { Gives ExprFault.Memory (shapes.reads (spec.locals at name left locals) tokens.now) result }
+    ensures { spec.GivesRole (spec.locals at name left locals) tokens.now result }
 {
     if left == 0 {
         return finished(Role::Leaf(Node::Render { at, name, locals }), tokens);
@@ -70,7 +70,7 @@ fn locals_from(
 /// A collection, behind the word `partial`.
 #[tactic(auto, unfolding(crate::specs::Tags::collected, crate::specs::Shapes::reads, crate::specs::Shapes::item_at))]
 fn collected(alloc: Global, at: u32, tokens: &[Token]) -> Result<Role, ExprFault>
-    ensures { Gives ExprFault.Memory (shapes.reads (spec.collected at) tokens.now) result }
+    ensures { spec.GivesRole (spec.collected at) tokens.now result }
 {
     let text = mark_at(Mark::Colon, tokens)?;
     let (name, rest) = partial_at(alloc, text)?;
@@ -89,7 +89,7 @@ fn collected(alloc: Global, at: u32, tokens: &[Token]) -> Result<Role, ExprFault
 /// What may stand behind a collection's list: the name of its items, and whether they are kept.
 #[tactic(auto, unfolding(crate::specs::Tags::options, crate::specs::Shapes::reads))]
 fn options(alloc: Global, at: u32, of: Listed, tokens: &[Token]) -> Result<Role, ExprFault>
-    ensures { Gives ExprFault.Memory (shapes.reads (spec.options at of) tokens.now) result }
+    ensures { spec.GivesRole (spec.options at of) tokens.now result }
 {
     if !is_mark(Mark::Comma, tokens) {
         return ended(alloc, at, of, None, false, tokens);
@@ -104,7 +104,7 @@ fn options(alloc: Global, at: u32, of: Listed, tokens: &[Token]) -> Result<Role,
 /// The name of the items, behind the word `as`.
 #[tactic(auto, unfolding(crate::specs::Tags::named_item, crate::specs::Shapes::reads, crate::specs::Shapes::item_at))]
 fn named_item(alloc: Global, at: u32, of: Listed, tokens: &[Token]) -> Result<Role, ExprFault>
-    ensures { Gives ExprFault.Memory (shapes.reads (spec.named_item at of) tokens.now) result }
+    ensures { spec.GivesRole (spec.named_item at of) tokens.now result }
 {
     let rest = mark_at(Mark::Colon, tokens)?;
     let rest = mark_at(Mark::Colon, rest)?;
@@ -124,7 +124,7 @@ fn cached(
     item: Option<Name>,
     tokens: &[Token],
 ) -> Result<Role, ExprFault>
-    ensures { Gives ExprFault.Memory (shapes.reads (spec.cached at of item) tokens.now) result }
+    ensures { spec.GivesRole (spec.cached at of item) tokens.now result }
 {
     let rest = word_at(Word::Cached, tokens)?;
     let rest = mark_at(Mark::Colon, rest)?;
@@ -142,7 +142,7 @@ fn ended(
     cached: bool,
     tokens: &[Token],
 ) -> Result<Role, ExprFault>
-    ensures { Gives ExprFault.Memory (shapes.reads (shapes.Shape.ends (spec.collection at of item cached)) tokens.now) result }
+    ensures { spec.GivesRole (spec.collection_end at of item cached) tokens.now result }
 {
     if !is_end(tokens) {
         return Err(fault_at(None, tokens));

@@ -2,7 +2,6 @@
 
 ghost use Rattle.std.specs.Prelude.{◌≡◌, ◌≤◌, length, Ok};
 ghost use Rattle.doll_text.specs.Gives.{Gives, GivesExactly};
-ghost use Rattle.doll_erb.specs.Partials as partials;
 ghost use Rattle.doll_erb.specs.Shapes as shapes;
 ghost use Rattle.doll_erb.specs.Tags as spec;
 
@@ -37,7 +36,7 @@ pub(crate) fn role_of(
 }
 
 fn comment_of(alloc: Global, at: u32, content: &[u8]) -> Result<Role, ExprFault>
-    ensures { Gives ExprFault.Memory (Ok (spec.comment_by at (partials.dependency_of content.now))) result }
+    ensures { Gives ExprFault.Memory (spec.comment at content.now) result }
 {
     match dependency_of(content) {
         None => Ok(Role::Nothing),
@@ -51,7 +50,7 @@ fn comment_of(alloc: Global, at: u32, content: &[u8]) -> Result<Role, ExprFault>
 /// What a tag `<%=` writes: a partial or an expression.
 #[tactic(auto, unfolding(crate::specs::Tags::write, crate::specs::Shapes::reads, crate::specs::Shapes::item_at))]
 fn write_of(alloc: Global, at: u32, tokens: &[Token]) -> Result<Role, ExprFault>
-    ensures { Gives ExprFault.Memory (shapes.reads (spec.write at) tokens.now) result }
+    ensures { spec.GivesRole (spec.write at) tokens.now result }
 {
     if is_word(Word::Render, tokens) {
         return rendered(alloc, at, rest_of(tokens));
@@ -63,7 +62,7 @@ fn write_of(alloc: Global, at: u32, tokens: &[Token]) -> Result<Role, ExprFault>
 /// What a tag `<%==` writes.
 #[tactic(auto, unfolding(crate::specs::Tags::raw, crate::specs::Shapes::reads, crate::specs::Shapes::item_at))]
 fn raw_of(alloc: Global, at: u32, tokens: &[Token]) -> Result<Role, ExprFault>
-    ensures { Gives ExprFault.Memory (shapes.reads (spec.raw at) tokens.now) result }
+    ensures { spec.GivesRole (spec.raw at) tokens.now result }
 {
     let (expr, rest) = value_at(alloc, tokens)?;
     finished(Role::Leaf(Node::Raw { at, expr }), rest)
@@ -72,7 +71,7 @@ fn raw_of(alloc: Global, at: u32, tokens: &[Token]) -> Result<Role, ExprFault>
 /// A tag that opens, parts or closes a block, by its first token.
 #[tactic(auto, unfolding(crate::specs::Tags::run, crate::specs::Shapes::reads))]
 fn run_of(alloc: Global, tokens: &[Token]) -> Result<Role, ExprFault>
-    ensures { Gives ExprFault.Memory (shapes.reads spec.run tokens.now) result }
+    ensures { spec.GivesRole spec.run tokens.now result }
 {
     if is_word(Word::If, tokens) {
         return if_of(alloc, rest_of(tokens));
@@ -106,7 +105,7 @@ pub(crate) fn finished(role: Role, tokens: &[Token]) -> Result<Role, ExprFault>
 /// The test behind the word `if`.
 #[tactic(auto, unfolding(crate::specs::Shapes::reads, crate::specs::Shapes::item_at))]
 fn if_of(alloc: Global, tokens: &[Token]) -> Result<Role, ExprFault>
-    ensures { Gives ExprFault.Memory (shapes.reads spec.if_test tokens.now) result }
+    ensures { spec.GivesRole spec.if_test tokens.now result }
 {
     let (test, rest) = value_at(alloc, tokens)?;
     finished(Role::Opens(Opening::If(test)), rest)
@@ -115,7 +114,7 @@ fn if_of(alloc: Global, tokens: &[Token]) -> Result<Role, ExprFault>
 /// The test behind the word `elsif`.
 #[tactic(auto, unfolding(crate::specs::Shapes::reads, crate::specs::Shapes::item_at))]
 fn elsif_of(alloc: Global, tokens: &[Token]) -> Result<Role, ExprFault>
-    ensures { Gives ExprFault.Memory (shapes.reads spec.elsif_test tokens.now) result }
+    ensures { spec.GivesRole spec.elsif_test tokens.now result }
 {
     let (test, rest) = value_at(alloc, tokens)?;
     finished(Role::Closes(Closing::Elsif(test)), rest)
@@ -124,7 +123,7 @@ fn elsif_of(alloc: Global, tokens: &[Token]) -> Result<Role, ExprFault>
 /// A list and the name of its items.
 #[tactic(auto, unfolding(crate::specs::Tags::each, crate::specs::Shapes::reads, crate::specs::Shapes::item_at))]
 fn each_of(alloc: Global, tokens: &[Token]) -> Result<Role, ExprFault>
-    ensures { Gives ExprFault.Memory (shapes.reads spec.each tokens.now) result }
+    ensures { spec.GivesRole spec.each tokens.now result }
 {
     let (list, rest) = listed_at(alloc, tokens)?;
     let rest = word_at(Word::Do, rest)?;

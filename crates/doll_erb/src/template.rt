@@ -4,11 +4,11 @@ ghost use Rattle.std.specs.Prelude.{◌≡◌, ◌≤◌, ◌<◌, ◌+◌, ◌^
 ghost use Rattle.doll_text.specs.Gives.{Gives, GivesBy, GivesExactly};
 ghost use Rattle.doll_erb.specs.declared.node.ErbFault.TheVariants.{Memory};
 ghost use Rattle.doll_erb.specs.declared.node.Node.{Node};
-ghost use Rattle.doll_erb.specs.Grammar.{IsTemplate, OneTree};
+ghost use Rattle.doll_erb.specs.Grammar.{IsTemplate, GivesEachTree, OneTree};
 ghost use Rattle.doll_erb.specs.Tags.{TagsAreSentences};
 ghost use Rattle.doll_erb.specs.Faults.{Faults};
 ghost use Rattle.doll_erb.specs.Trees as spec;
-ghost use Rattle.doll_erb.specs.Readings.{state_of, GivesState};
+ghost use Rattle.doll_erb.specs.Readings.{state_of, GivesState, Holds, TakesInnermost};
 
 use crate::frame::Frame;
 use crate::node::{Arm, Arms, ErbFault, Node, Tree};
@@ -37,7 +37,7 @@ pub fn parse_template(alloc: Global, text: &str) -> Result<Tree, ErbFault>
     // What is accepted is a template of the grammar of blocks with this tree.
     ensures found { IfOk result (λ tree. IsTemplate text.now tree) }
     // Each template of the grammar is accepted with its tree, unless memory runs out.
-    ensures only { (tree : List Node) → IsTemplate text.now tree → Gives ErbFault.Memory (Ok tree) result }
+    ensures only { GivesEachTree text.now result }
     // What is accepted has no fault, and a refusal is the first fault by the blocks that tags open and close, unless memory ran out.
     ensures fault { Faults text.now result }
     // The same as one equation: what reading from the left gives.
@@ -89,7 +89,7 @@ fn read_pieces(alloc: Global, text: &[u8], tags: &[Tag]) -> Result<Reading, ErbF
 
 /// The tree, where no block is open at the text's end.
 fn at_end(reading: Reading) -> Result<Tree, ErbFault>
-    ensures { Gives ErbFault.Memory (spec.at_end (reverse reading.frames) (state_of reading)) result }
+    ensures { Gives ErbFault.Memory (spec.tree_at_end (state_of reading)) result }
 {
     let mut frames = reading.frames;
     match take_frame(&mut frames) {
@@ -184,7 +184,7 @@ fn with_text(nodes: Tree, bytes: Vec<u8>) -> Result<Tree, AllocError>
 }
 
 fn with_bytes(reading: Reading, more: &[u8]) -> Result<Reading, AllocError>
-    ensures value { IfOk result (λ r. state_of r ≡ spec.state (reverse reading.frames) reading.nodes (reading.bytes.items ++ more.now) reading.number) }
+    ensures value { IfOk result (Holds (spec.with_bytes (state_of reading) more.now)) }
     ensures number { IfOk result (λ r. r.number ≡ reading.number) }
 {
     let mut reading = reading;
@@ -193,7 +193,7 @@ fn with_bytes(reading: Reading, more: &[u8]) -> Result<Reading, AllocError>
 }
 
 fn with_node(alloc: Global, reading: Reading, node: Node) -> Result<Reading, AllocError>
-    ensures value { IfOk result (λ r. state_of r ≡ spec.state (reverse reading.frames) (spec.with_text reading.nodes reading.bytes.items ++ node ∷ []) [] reading.number) }
+    ensures value { IfOk result (Holds (spec.with_node (state_of reading) node)) }
     ensures number { IfOk result (λ r. r.number ≡ reading.number) }
 {
     let mut nodes = with_text(reading.nodes, reading.bytes)?;
@@ -208,7 +208,7 @@ fn with_node(alloc: Global, reading: Reading, node: Node) -> Result<Reading, All
 
 /// Takes the innermost block.
 fn take_frame(frames: &mut Items<Frame>) -> Option<Frame>
-    ensures { MatchOption result (reverse frames.old ≡ []) (λ frame. reverse frames.old ≡ frame ∷ reverse frames.new) }
+    ensures { TakesInnermost frames.old frames.new result }
 {
     frames.pop()
 }
@@ -233,7 +233,10 @@ fn opened(alloc: Global, reading: Reading, at: u32, what: Opening) -> Result<Rea
     let mut frames = reading.frames;
     let outer = with_text(reading.nodes, reading.bytes)?;
     let number = number_in(reading.number, &what);
-    put_frame(&mut frames, frame_of(alloc, at, reading.number, what, outer))?;
+    put_frame(
+        &mut frames,
+        frame_of(alloc, at, reading.number, what, outer),
+    )?;
     Ok(Reading {
         frames,
         nodes: Items::new(alloc),
@@ -284,7 +287,7 @@ fn frame_of(alloc: Global, at: u32, number: u32, what: Opening, outer: Tree) -> 
 
 /// The end of a part of the innermost block.
 fn closed(alloc: Global, reading: Reading, at: u32, what: Closing) -> Result<Reading, ErbFault>
-    ensures value { GivesState (spec.closed_in (reverse reading.frames) (state_of reading) at what) result }
+    ensures value { GivesState (spec.closed (state_of reading) at what) result }
     ensures numbers { IfOk result (λ r. r.number ≡ reading.number) }
 {
     let mut frames = reading.frames;
@@ -327,7 +330,12 @@ fn part_ended(
 }
 
 /// What was read where a part begins.
-fn inside(alloc: Global, frames: Items<Frame>, next: Frame, number: u32) -> Result<Reading, ErbFault>
+fn inside(
+    alloc: Global,
+    frames: Items<Frame>,
+    next: Frame,
+    number: u32,
+) -> Result<Reading, ErbFault>
     ensures value { GivesState (Ok (spec.state (next ∷ reverse frames) [] [] number)) result }
     ensures numbers { IfOk result (λ r. r.number ≡ number) }
 {
