@@ -19,8 +19,8 @@ use Rattle.doll_commit.specs.declared.fault.Why.TheVariants as why
 use Rattle.doll_commit.specs.Refs.{Ref, is_ref, has, with_refs}
 use Rattle.doll_commit.specs.Given.{Given}
 use Rattle.doll_commit.specs.Removed.{removed_with, is_restricted, without_rows}
-use Rattle.doll_commit.specs.Changes.{Made, model_of, living, created_row, updated_row, create, update, destroy_all, destroy, touch, made}
-use Rattle.doll_commit.specs.Commits.{row_touches, touch_parents, touched_at_once, Course, after_change, or_refused, all_made}
+use Rattle.doll_commit.specs.Changes.{Made, model_of, living_row, created_row, updated_row, create, update, destroy_all, destroy, touch, made}
+use Rattle.doll_commit.specs.Commits.{row_touches, touch_parents, touched_at_once, Course, after_change, refused_at, all_made}
 use Rattle.doll_commit.proofs.Closures.{has_left, has_right, has_next, with_all_has}
 
 -- a change leaves the rows of the records that it didn't change
@@ -91,13 +91,13 @@ update_leaves table schema given ref = then_made table (updated_row table schema
     left row = record { row = λ r h. put_other table ref.0 ref.1 row r (not_first (is_ref r ref) false h) }
 
 destroy_leaves : (table : TableMap) (schema : Schema) (ref : Ref) → IfMade table (destroy table schema ref)
-destroy_leaves table schema ref = then_made table (living table ref) (λ old. destroy_all table schema (removed_with table schema ref)) (λ old. all_leaves (removed_with table schema ref))
+destroy_leaves table schema ref = then_made table (living_row table ref) (λ old. destroy_all table schema (removed_with table schema ref)) (λ old. all_leaves (removed_with table schema ref))
   where
     all_leaves : (removed : List Ref) → IfMade table (destroy_all table schema removed)
     all_leaves removed = if_made table (is_restricted table schema removed) why.Restricted (Ok (record { table = without_rows table removed; changed = removed; created = None })) (made_of table (record { table = without_rows table removed; changed = removed; created = None }) (record { row = without_other removed table }))
 
 touch_leaves : (table : TableMap) (ref : Ref) → IfMade table (touch table ref)
-touch_leaves table ref = then_made table (living table ref) (λ old. Ok (record { table = table; changed = ref ∷ []; created = None })) (λ old. made_of table (record { table = table; changed = ref ∷ []; created = None }) (record { row = λ r h. refl }))
+touch_leaves table ref = then_made table (living_row table ref) (λ old. Ok (record { table = table; changed = ref ∷ []; created = None })) (λ old. made_of table (record { table = table; changed = ref ∷ []; created = None }) (record { row = λ r h. refl }))
 
 -- each change leaves the rows of the records that it didn't change
 pub made_leaves : (table : TableMap) (schema : Schema) (one : Change) (m : Made) → made table schema one ≡ Ok m → Leaves table m
@@ -154,7 +154,7 @@ keeps_all : (schema : Schema) (table : TableMap) (r : Ref) (changes : List Chang
 keeps_all schema table r [] index course last is k = let e : course ≡ last = cc in subst (λ c. Keeps schema table c r) e k
 keeps_all schema table r (one ∷ more) index course last is k = by_made (made course.table schema one) refl is (λ m. keeps_all schema table r more (index + 1) (after_change schema course m) last)
   where
-    by_made : (o : Result Made Why) → made course.table schema one ≡ o → (or_refused index o >>= (λ m. all_made schema (index + 1) (after_change schema course m) more)) ≡ Ok last → ((m : Made) → all_made schema (index + 1) (after_change schema course m) more ≡ Ok last → Keeps schema table (after_change schema course m) r → Keeps schema table last r) → Keeps schema table last r
+    by_made : (o : Result Made Why) → made course.table schema one ≡ o → (refused_at index o >>= (λ m. all_made schema (index + 1) (after_change schema course m) more)) ≡ Ok last → ((m : Made) → all_made schema (index + 1) (after_change schema course m) more ≡ Ok last → Keeps schema table (after_change schema course m) r → Keeps schema table last r) → Keeps schema table last r
     by_made (Ok m) at is later = later m is (keeps_more schema table course r m (made_leaves course.table schema one m at) k)
     by_made (Err w) at is later = absurd (cc is)
 

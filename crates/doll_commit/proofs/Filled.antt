@@ -22,7 +22,7 @@ use Rattle.doll_table.specs.Fits.{Fits, RowFits}
 use Rattle.doll_table.proofs.Growing.{row_of_next, next_of_next, fits_more, put_fits, next_fits}
 use Rattle.doll_commit.specs.declared.fault.Why.{Why}
 use Rattle.doll_commit.specs.declared.fault.Why.TheVariants as why
-use Rattle.doll_commit.specs.Given.{Given, value_given, id_of_int, key_of, value_fault, attribute_fault, key_fault, first_fault, is_known, pair_fault, given_fault}
+use Rattle.doll_commit.specs.Given.{Given, value_given, id_of_int, key_of, value_fault, attribute_fault, key_fault, fault_among, is_known, pair_fault, given_fault}
 use Rattle.doll_commit.specs.Rows.{value_after, key_after, row_after}
 
 -- where nothing is the first fault, nothing has one
@@ -31,9 +31,9 @@ first_none : (o rest : Option Why) → option_map_or Some o rest ≡ None → (o
 first_none None rest h = (refl, h)
 first_none (Some w) rest h = absurd (none-some w (sym h))
 
-none_faulty : {X : Type 0} (fault : X → Option Why) (xs : List X) → first_fault fault xs ≡ None → All (λ x. fault x ≡ None) xs
+none_faulty : {X : Type 0} (fault : X → Option Why) (xs : List X) → fault_among fault xs ≡ None → All (λ x. fault x ≡ None) xs
 none_faulty fault [] h = All-nil (λ x. fault x ≡ None)
-none_faulty fault (x ∷ xs) h = let both = first_none (fault x) (first_fault fault xs) h in All-cons (λ y. fault y ≡ None) x xs both.0 (none_faulty fault xs both.1)
+none_faulty fault (x ∷ xs) h = let both = first_none (fault x) (fault_among fault xs) h in All-cons (λ y. fault y ≡ None) x xs both.0 (none_faulty fault xs both.1)
 
 all_reversed : {X : Type 0} (P : X → Type 0) (xs : List X) → All P xs → All P (reverse xs)
 all_reversed P xs all k d h =
@@ -66,10 +66,10 @@ known_none : (known : Bool) (o : Option Why) → cond known o (Some why.UnknownA
 known_none true o h = h
 known_none false o h = absurd (none-some why.UnknownAttribute (sym h))
 
-faults_none : (table : TableMap) (model : Model) (pair : List ℕ × Value) → pair_fault table model pair ≡ None → (first_fault (attribute_fault pair) model.attributes ≡ None) × (first_fault (key_fault table pair) model.belongs_to ≡ None)
+faults_none : (table : TableMap) (model : Model) (pair : List ℕ × Value) → pair_fault table model pair ≡ None → (fault_among (attribute_fault pair) model.attributes ≡ None) × (fault_among (key_fault table pair) model.belongs_to ≡ None)
 faults_none table model pair h =
-    first_none (first_fault (attribute_fault pair) model.attributes) (first_fault (key_fault table pair) model.belongs_to)
-    (known_none (is_known model pair.0) (option_map_or Some (first_fault (attribute_fault pair) model.attributes) (first_fault (key_fault table pair) model.belongs_to)) h)
+    first_none (fault_among (attribute_fault pair) model.attributes) (fault_among (key_fault table pair) model.belongs_to)
+    (known_none (is_known model pair.0) (option_map_or Some (fault_among (attribute_fault pair) model.attributes) (fault_among (key_fault table pair) model.belongs_to)) h)
 
 -- the value given to an attribute is of its kind
 given_kind : (table : TableMap) (model : Model) (given : Given) (at : ℕ) (a : Attribute) (v : Value) → given_fault table model given ≡ None → slice_get model.attributes at ≡ Some a → value_given given a.name ≡ Some v → has_kind a.kind v ≡ true

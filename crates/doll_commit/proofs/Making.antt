@@ -20,7 +20,7 @@ use Rattle.doll_commit.specs.declared.fault.ChangeFault.TheVariants as fault
 use Rattle.doll_commit.specs.Refs.{Ref, is_ref, has, with_ref, with_refs}
 use Rattle.doll_commit.specs.Given.{Given}
 use Rattle.doll_commit.specs.Removed.{dependents, removed_with, is_restricted, without_rows}
-use Rattle.doll_commit.specs.Changes.{Made, living, filled_at, created_row, updated_row, create, update, destroy, destroy_all, touch}
+use Rattle.doll_commit.specs.Changes.{Made, living_row, filled_at, created_row, updated_row, create, update, destroy, destroy_all, touch}
 use Rattle.doll_commit.specs.Commits.{Course, row_touches, touch_parents, after_change}
 use Rattle.doll_commit.specs.Answers.{Refuses, next_course}
 use Rattle.doll_commit.proofs.Gone.{dependents_live}
@@ -119,7 +119,7 @@ bind_ok : {A B : Type 0} (r : Result A Why) (f : A → Result B Why) (y : B) →
 bind_ok (Ok x) f y h = (x, refl)
 bind_ok (Err e) f y h = absurd (cc h)
 
-lives_from : (table : TableMap) (one : Ref) (row : Row) → living table one ≡ Ok row → IsSome (row_of table one.0 one.1)
+lives_from : (table : TableMap) (one : Ref) (row : Row) → living_row table one ≡ Ok row → IsSome (row_of table one.0 one.1)
 lives_from table one row = by_row (row_of table one.0 one.1)
   where
     by_row : (o : Option Row) → ok_or o why.MissingRow ≡ Ok row → IsSome o
@@ -129,13 +129,13 @@ lives_from table one row = by_row (row_of table one.0 one.1)
 pub updated_fits : (schema : Schema) (table after : TableMap) (given : Given) (one : Ref) (row : Row) (t1 t2 : TableMap) → Fits schema table → one.0 < length schema.models → updated_row table schema given one ≡ Ok row → ((model : Model) → slice_get schema.models one.0 ≡ Some model → RowFits table model row) → t1 ≡ table → t2 ≡ put_row t1 one.0 one.1 row → after ≡ t2 → Fits schema after
 updated_fits schema table after given one row t1 t2 fits l is suits e1 e2 e3 =
     let found = model_within schema.models one.0 l in
-    let old = bind_ok (living table one) (λ x. filled_at table schema one.0 given x) row is in
+    let old = bind_ok (living_row table one) (λ x. filled_at table schema one.0 given x) row is in
     let ids = fits.ids one.0 one.1 (lives_from table one old.0 old.1) in
     subst (λ t. Fits schema t) (sym (e3 ∙ (e2 ∙ ap (λ t. put_row t one.0 one.1 row) e1))) (put_fits schema table one.0 one.1 found.0 row fits found.1 ids.0 ids.1 (suits found.0 found.1))
 
 -- a touch
 
-living_is : (table : TableMap) (one : Ref) → IsSome (row_of table one.0 one.1) → (row : Row) × (living table one ≡ Ok row)
+living_is : (table : TableMap) (one : Ref) → IsSome (row_of table one.0 one.1) → (row : Row) × (living_row table one ≡ Ok row)
 living_is table one = by_row (row_of table one.0 one.1)
   where
     by_row : (o : Option Row) → IsSome o → (row : Row) × (ok_or o why.MissingRow ≡ Ok row)

@@ -16,7 +16,7 @@ use Rattle.doll_commit.specs.declared.walk.Step.{Step}
 use Rattle.doll_commit.specs.declared.walk.Step.TheVariants as step
 use Rattle.doll_commit.specs.Refs.{Ref, is_ref, has, with_refs, count_of, with_next, closure}
 use Rattle.doll_commit.specs.Commits.{row_touches, touch_parents}
-use Rattle.doll_commit.specs.Walk.{next_of}
+use Rattle.doll_commit.specs.Walk.{steps_from}
 use Rattle.doll_commit.proofs.Closures.{Within, LivesBetween, is_ref_itself, has_right, from_next, with_all_has, closure_closed}
 use Rattle.doll_commit.proofs.Gone.{dependents_live}
 use Rattle.doll_commit.proofs.Pushes.{with_refs_append, pushed_more}
@@ -34,7 +34,7 @@ parents_of_living table schema r p h = by_model (slice_get schema.models r.0) h
     by_model (Some m) h = by_row m (row_of table r.0 r.1) h
 
 -- the records between two steps of a walk live
-pub lives_between : (way : Step) (table : TableMap) (schema : Schema) → LivesBetween (next_of way table schema) table
+pub lives_between : (way : Step) (table : TableMap) (schema : Schema) → LivesBetween (steps_from way table schema) table
 lives_between step.Dependents table schema q r p h k = dependents_live table schema q r h
 lives_between step.TouchParents table schema q r p h k = parents_of_living table schema r p k
 

@@ -28,8 +28,8 @@ abbrev pub model_of : Schema → List ℕ → Result ℕ Why
 model_of schema name = ok_or (model_named schema name) why.UnknownModel
 
 -- a living row
-abbrev pub living : TableMap → Ref → Result Row Why
-living table ref = ok_or (row_of table ref.0 ref.1) why.MissingRow
+abbrev pub living_row : TableMap → Ref → Result Row Why
+living_row table ref = ok_or (row_of table ref.0 ref.1) why.MissingRow
 
 -- a fault, if there is one, else what comes behind it
 abbrev pub unless : {A : Type 0} → Option Why → Result A Why → Result A Why
@@ -48,7 +48,7 @@ abbrev pub created_row : TableMap → Schema → Given → ℕ → Result Row Wh
 created_row table schema given m = ok_or (slice_get schema.models m) why.UnknownModel >>= λ model. filled table model given (blank_row model)
 
 abbrev pub updated_row : TableMap → Schema → Given → Ref → Result Row Why
-updated_row table schema given ref = living table ref >>= λ old. filled_at table schema ref.0 given old
+updated_row table schema given ref = living_row table ref >>= λ old. filled_at table schema ref.0 given old
 
 -- a creation takes the next id, of which 4,294,967,295 is never given
 abbrev pub create : TableMap → Schema → Given → ℕ → Result Made Why
@@ -68,11 +68,11 @@ abbrev pub destroy_all : TableMap → Schema → List Ref → Result Made Why
 destroy_all table schema removed = if is_restricted table schema removed then Err why.Restricted else Ok (record { table = without_rows table removed; changed = removed; created = None })
 
 abbrev pub destroy : TableMap → Schema → Ref → Result Made Why
-destroy table schema ref = living table ref >>= λ old. destroy_all table schema (removed_with table schema ref)
+destroy table schema ref = living_row table ref >>= λ old. destroy_all table schema (removed_with table schema ref)
 
 -- a touch changes nothing by itself
 abbrev pub touch : TableMap → Ref → Result Made Why
-touch table ref = living table ref >>= λ old. Ok (record { table = table; changed = ref ∷ []; created = None })
+touch table ref = living_row table ref >>= λ old. Ok (record { table = table; changed = ref ∷ []; created = None })
 
 -- What a change makes of a table, or why it isn't made. The name of its model comes first, so that of an unknown model
 -- nothing else is told.

@@ -53,14 +53,14 @@ after_change schema course made = record {
   ids = course.ids ++ option_to_list made.created;
 }
 
-abbrev pub or_refused : {A : Type 0} → ℕ → Result A Why → Result A CommitFault
-or_refused index (Ok x) = Ok x
-or_refused index (Err what) = Err (fault.Refused index what)
+abbrev pub refused_at : {A : Type 0} → ℕ → Result A Why → Result A CommitFault
+refused_at index (Ok x) = Ok x
+refused_at index (Err what) = Err (fault.Refused index what)
 
 -- changes made in order, the first of these with an index
 abbrev pub all_made : Schema → ℕ → Course → List Change → Result Course CommitFault
 all_made schema index course [] = Ok course
-all_made schema index course (one ∷ more) = or_refused index (made course.table schema one) >>= λ made. all_made schema (index + 1) (after_change schema course made) more
+all_made schema index course (one ∷ more) = refused_at index (made course.table schema one) >>= λ made. all_made schema (index + 1) (after_change schema course made) more
 
 -- the touched set: what was touched at once, the touch parents of that in the table after the last change, and so on
 abbrev pub touched_set : Schema → Course → List Ref
@@ -74,11 +74,11 @@ abbrev pub stamped : ℕ → TableMap → List Ref → TableMap
 stamped moment = fold (stamped_at moment)
 
 -- what a course comes to: its table with a moment at each record of the touched set, and its ids
-abbrev pub finished : Schema → ℕ → Course → Applied
-finished schema moment course = record { table = stamped moment course.table (touched_set schema course); ids = course.ids }
+abbrev pub applied_of : Schema → ℕ → Course → Applied
+applied_of schema moment course = record { table = stamped moment course.table (touched_set schema course); ids = course.ids }
 
 -- a commit over a table, or its first refused change
 abbrev pub commit_of : TableMap → Schema → Commit → Result Applied CommitFault
 commit_of table schema commit =
     if nat_lt 1000 (length commit.changes) then Err (fault.Refused 1000 why.TooManyChanges)
-    else all_made schema 0 (start table) commit.changes >>= λ course. Ok (finished schema commit.moment course)
+    else all_made schema 0 (start table) commit.changes >>= λ course. Ok (applied_of schema commit.moment course)

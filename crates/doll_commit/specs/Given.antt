@@ -53,9 +53,9 @@ abbrev pub first_of : Option Why → Option Why → Option Why
 first_of first second = option_map_or Some first second
 
 -- the first fault among several things
-abbrev pub first_fault : {X : Type 0} → (X → Option Why) → List X → Option Why
-first_fault fault [] = None
-first_fault fault (x ∷ xs) = first_of (fault x) (first_fault fault xs)
+abbrev pub fault_among : {X : Type 0} → (X → Option Why) → List X → Option Why
+fault_among fault [] = None
+fault_among fault (x ∷ xs) = first_of (fault x) (fault_among fault xs)
 
 -- whether a name is an attribute's or a foreign key's
 abbrev pub is_known : Model → List ℕ → Bool
@@ -64,9 +64,9 @@ is_known model name = is_some (attribute_named model name) || is_some (key_named
 -- what is wrong with a given value: its name is neither an attribute's nor a foreign key's, or it isn't a value for that
 abbrev pub pair_fault : TableMap → Model → List ℕ × Value → Option Why
 pair_fault table model pair =
-    if is_known model pair.0 then first_of (first_fault (attribute_fault pair) model.attributes) (first_fault (key_fault table pair) model.belongs_to)
+    if is_known model pair.0 then first_of (fault_among (attribute_fault pair) model.attributes) (fault_among (key_fault table pair) model.belongs_to)
     else Some why.UnknownAttribute
 
 -- the first fault of the values, in order
 abbrev pub given_fault : TableMap → Model → Given → Option Why
-given_fault table model = first_fault (pair_fault table model)
+given_fault table model = fault_among (pair_fault table model)

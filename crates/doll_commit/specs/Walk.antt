@@ -9,6 +9,6 @@ use Rattle.doll_commit.specs.Removed.{dependents}
 use Rattle.doll_commit.specs.Commits.{touch_parents}
 
 -- the records that a step leads to from one
-abbrev pub next_of : Step → TableMap → Schema → Ref → List Ref
-next_of step.Dependents table schema = dependents table schema
-next_of step.TouchParents table schema = touch_parents table schema
+abbrev pub steps_from : Step → TableMap → Schema → Ref → List Ref
+steps_from step.Dependents table schema = dependents table schema
+steps_from step.TouchParents table schema = touch_parents table schema

@@ -4,7 +4,7 @@ ghost use Rattle.std.specs.Prelude.{◌≡◌, ◌≤◌, length, IfOk, OnOk};
 ghost use Rattle.doll_text.specs.Gives.{Gives, GivesBy};
 ghost use Rattle.doll_table.specs.Fits.{Fits};
 ghost use Rattle.doll_commit.specs.Changes.{made};
-ghost use Rattle.doll_commit.specs.Commits.{start, or_refused, all_made, commit_of};
+ghost use Rattle.doll_commit.specs.Commits.{start, refused_at, all_made, commit_of};
 ghost use Rattle.doll_commit.specs.Answers.{next_course, Reaches, seen};
 ghost use Rattle.doll_commit.specs.Moments.{CarriesMoment};
 
@@ -128,7 +128,7 @@ fn make_one(
 ) -> Result<(), CommitFault>
     requires { Fits schema.now course.old.table }
     ensures exact { Reaches
-        (or_refused index
+        (refused_at index
         (next_course schema.now (seen course.old) (made course.old.table schema.now change.now)))
         (seen course.new) result }
     ensures fits { OnOk result (Fits schema.now course.new.table) }

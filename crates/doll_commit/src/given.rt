@@ -83,7 +83,7 @@ fn is_known(model: &Model, name: &[u8]) -> bool
 }
 
 fn attributes_fault(attributes: &[Attribute], name: &[u8], value: &Value) -> Option<Why>
-    ensures { result ≡ spec.first_fault (spec.attribute_fault (name.now, value.now))
+    ensures { result ≡ spec.fault_among (spec.attribute_fault (name.now, value.now))
         attributes.now }
 {
     for attribute in attributes {
@@ -106,7 +106,7 @@ fn attribute_fault(attribute: &Attribute, name: &[u8], value: &Value) -> Option<
 }
 
 fn keys_fault(table: &Table, associations: &[BelongsTo], name: &[u8], value: &Value) -> Option<Why>
-    ensures { result ≡ spec.first_fault (spec.key_fault table.now (name.now, value.now))
+    ensures { result ≡ spec.fault_among (spec.key_fault table.now (name.now, value.now))
         associations.now }
 {
     for association in associations {

@@ -4,7 +4,7 @@ ghost use Rattle.std.specs.Prelude.{◌≡◌, [], length, IfOk, OnOk};
 ghost use Rattle.std.specs.List.{flat_map};
 ghost use Rattle.doll_table.specs.Fits.{Fits};
 ghost use Rattle.doll_commit.specs.Refs.{with_refs};
-ghost use Rattle.doll_commit.specs.Commits.{touched_by, row_touches, touch_parents, touched_set, stamped_at, stamped, finished};
+ghost use Rattle.doll_commit.specs.Commits.{touched_by, row_touches, touch_parents, touched_set, stamped_at, stamped, applied_of};
 
 use crate::apply::Applied;
 use crate::refs::{Ref, Refs};
@@ -25,7 +25,7 @@ pub fn finish(
 ) -> Result<Applied, Memory>
     requires { Fits schema.now table }
     ensures exact { IfOk result
-        (λ applied. applied ≡ finished schema.now moment
+        (λ applied. applied ≡ applied_of schema.now moment
         (record { table = table; touched = touched; ids = ids })) }
     ensures fits { IfOk result (λ applied. Fits schema.now applied.table) }
 {

@@ -2,7 +2,7 @@
 
 ghost use Rattle.std.specs.Prelude.{◌≡◌, IfOk, OnOk};
 ghost use Rattle.doll_commit.specs.Refs.{with_refs, closure};
-ghost use Rattle.doll_commit.specs.Walk.{next_of};
+ghost use Rattle.doll_commit.specs.Walk.{steps_from};
 
 use crate::refs::{Ref, Refs};
 use crate::removal::add_dependents;
@@ -23,7 +23,7 @@ pub enum Step {
 /// The records, and all that steps lead to from them.
 pub fn reached(step: Step, table: &Table, schema: &Schema, seeds: Refs) -> Result<Refs, Memory>
     ensures { IfOk result
-        (λ all. all ≡ closure (next_of step table.now schema.now) table.now seeds) }
+        (λ all. all ≡ closure (steps_from step table.now schema.now) table.now seeds) }
 {
     let mut all = seeds;
     let mut at = 0;
@@ -42,7 +42,7 @@ fn add_next(
     schema: &Schema,
     one: Ref,
 ) -> Result<(), Memory>
-    ensures { OnOk result (refs.new ≡ with_refs refs.old (next_of step table.now schema.now one)) }
+    ensures { OnOk result (refs.new ≡ with_refs refs.old (steps_from step table.now schema.now one)) }
 {
     match step {
         Step::Dependents => add_dependents(refs, table, schema, one),

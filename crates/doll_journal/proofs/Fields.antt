@@ -13,7 +13,7 @@ use Rattle.doll_text.specs.Steps.{◌>>=◌, ◌>>◌, check}
 use Rattle.doll_journal.specs.declared.fault.JournalFault.{JournalFault}
 use Rattle.doll_journal.specs.declared.fault.JournalFault.TheVariants.{Truncated, BadText}
 use Rattle.doll_journal.specs.Spelling.{text_bytes}
-use Rattle.doll_journal.specs.Fields.{place, Field, byte_at, number_at, text_at, nothing, made_by, two, repeated, counted, Cases, chosen, tagged}
+use Rattle.doll_journal.specs.Fields.{offset, Field, byte_field, number_field, text_field, nothing, made_by, two, repeated, counted, Cases, field_behind, tagged}
 use Rattle.doll_journal.proofs.Parts.{count_le}
 
 -- every item is a byte
@@ -63,7 +63,7 @@ Takes-tagged tag a rest x c p q = Takes-then a (tag ∷ []) rest x c p q
 
 -- ---- a byte
 
-pub byte_takes : (total : ℕ) (bytes : List ℕ) (b : ℕ) (rest : List ℕ) → IsBytes bytes → byte_at total bytes ≡ Ok (b, rest) → Takes bytes (b ∷ []) rest
+pub byte_takes : (total : ℕ) (bytes : List ℕ) (b : ℕ) (rest : List ℕ) → IsBytes bytes → byte_field total bytes ≡ Ok (b, rest) → Takes bytes (b ∷ []) rest
 byte_takes total [] b rest fits e = absurd cc
 byte_takes total (first ∷ others) b rest fits e =
     subst (λ (p : ℕ × List ℕ). Takes (first ∷ others) (p.0 ∷ []) p.1) (ok_is (first, others) (b, rest) e) (record { parts = refl; rest_fits = IsBytes-rest first others fits })
@@ -92,17 +92,17 @@ wide64 = record {
   below = λ bytes fits. omega (arith, fits 0, fits 1, fits 2, fits 3, fits 4, fits 5, fits 6, fits 7);
 }
 
-pub number_takes : (w : Width) (limit : ℕ) (wide : IsWide w limit) (total : ℕ) (bytes : List ℕ) (n : ℕ) (rest : List ℕ) → IsBytes bytes → number_at w total bytes ≡ Ok (n, rest) → Takes bytes (to_be_bytes w n) rest × (n < limit)
+pub number_takes : (w : Width) (limit : ℕ) (wide : IsWide w limit) (total : ℕ) (bytes : List ℕ) (n : ℕ) (rest : List ℕ) → IsBytes bytes → number_field w total bytes ≡ Ok (n, rest) → Takes bytes (to_be_bytes w n) rest × (n < limit)
 number_takes w limit wide total bytes n rest fits e =
     let front : List ℕ = take (byte_len w) bytes in
-    let g = check_ok (nat_le (byte_len w) (length bytes)) (Truncated (place total bytes)) (Ok (from_be_bytes w (take (byte_len w) bytes), drop (byte_len w) bytes)) (n, rest) e in
+    let g = check_ok (nat_le (byte_len w) (length bytes)) (Truncated (offset total bytes)) (Ok (from_be_bytes w (take (byte_len w) bytes), drop (byte_len w) bytes)) (n, rest) e in
     let long : byte_len w ≤ length bytes = leb-true _ _ g.0 in
     let same = ok_is (from_be_bytes w (take (byte_len w) bytes), drop (byte_len w) bytes) (n, rest) g.1 in
     let again : to_be_bytes w (from_be_bytes w (take (byte_len w) bytes)) ≡ take (byte_len w) bytes = wide.back (take (byte_len w) bytes) (omega (arith, length-take (byte_len w) bytes)) (IsBytes-take (byte_len w) bytes fits) in
     let read : Takes bytes (to_be_bytes w (from_be_bytes w (take (byte_len w) bytes))) (drop (byte_len w) bytes) = record { parts = rw again (sym (take-append-drop (byte_len w) bytes)); rest_fits = IsBytes-drop (byte_len w) bytes fits } in
     subst (λ (p : ℕ × List ℕ). Takes bytes (to_be_bytes w p.0) p.1 × (p.0 < limit)) same (read, wide.below (take (byte_len w) bytes) (IsBytes-take (byte_len w) bytes fits))
 
-pub number_again : (w : Width) (limit : ℕ) (wide : IsWide w limit) (total n : ℕ) (rest : List ℕ) → n < limit → number_at w total (to_be_bytes w n ++ rest) ≡ Ok (n, rest)
+pub number_again : (w : Width) (limit : ℕ) (wide : IsWide w limit) (total n : ℕ) (rest : List ℕ) → n < limit → number_field w total (to_be_bytes w n ++ rest) ≡ Ok (n, rest)
 number_again w limit wide total n rest lt =
     let len = wide.len n in
     let long : nat_le (byte_len w) (length (to_be_bytes w n ++ rest)) ≡ true = le-leb _ _ (omega (arith, length-append (to_be_bytes w n) rest)) in
@@ -110,14 +110,14 @@ number_again w limit wide total n rest lt =
 
 -- ---- texts
 
-pub text_takes : (total : ℕ) (bytes text rest : List ℕ) → IsBytes bytes → text_at total bytes ≡ Ok (text, rest) → Takes bytes (text_bytes text) rest × IsUtf8 text
-unfolding text_at
+pub text_takes : (total : ℕ) (bytes text rest : List ℕ) → IsBytes bytes → text_field total bytes ≡ Ok (text, rest) → Takes bytes (text_bytes text) rest × IsUtf8 text
+unfolding text_field
 text_takes total bytes text rest fits e =
-    let a = bind_ok (number_at w32 total bytes) (λ n. check (nat_le n.0 (length n.1)) (Truncated (place total n.1)) >> (check (is_utf8 (take n.0 n.1)) (BadText (place total n.1)) >> Ok (take n.0 n.1, drop n.0 n.1))) (text, rest) e in
+    let a = bind_ok (number_field w32 total bytes) (λ n. check (nat_le n.0 (length n.1)) (Truncated (offset total n.1)) >> (check (is_utf8 (take n.0 n.1)) (BadText (offset total n.1)) >> Ok (take n.0 n.1, drop n.0 n.1))) (text, rest) e in
     let n = a.0 in
     let t = number_takes w32 (2 ^ 32) wide32 total bytes n.0 n.1 fits a.1 in
-    let g = check_ok (nat_le n.0 (length n.1)) (Truncated (place total n.1)) (check (is_utf8 (take n.0 n.1)) (BadText (place total n.1)) >> Ok (take n.0 n.1, drop n.0 n.1)) (text, rest) a.2 in
-    let u = check_ok (is_utf8 (take n.0 n.1)) (BadText (place total n.1)) (Ok (take n.0 n.1, drop n.0 n.1)) (text, rest) g.1 in
+    let g = check_ok (nat_le n.0 (length n.1)) (Truncated (offset total n.1)) (check (is_utf8 (take n.0 n.1)) (BadText (offset total n.1)) >> Ok (take n.0 n.1, drop n.0 n.1)) (text, rest) a.2 in
+    let u = check_ok (is_utf8 (take n.0 n.1)) (BadText (offset total n.1)) (Ok (take n.0 n.1, drop n.0 n.1)) (text, rest) g.1 in
     let long : n.0 ≤ length n.1 = leb-true _ _ g.0 in
     let len : length (take n.0 n.1) ≡ n.0 = omega (arith, length-take n.0 n.1) in
     let second : Takes n.1 (take n.0 n.1) (drop n.0 n.1) = record { parts = sym (take-append-drop n.0 n.1); rest_fits = IsBytes-drop n.0 n.1 t.0.rest_fits } in
@@ -125,12 +125,12 @@ text_takes total bytes text rest fits e =
     let whole : Takes bytes (text_bytes (take n.0 n.1)) (drop n.0 n.1) = subst (λ (k : ℕ). Takes bytes (to_be_bytes w32 k ++ take n.0 n.1) (drop n.0 n.1)) (sym len) both in
     subst (λ (p : List ℕ × List ℕ). Takes bytes (text_bytes p.0) p.1 × IsUtf8 p.0) (ok_is (take n.0 n.1, drop n.0 n.1) (text, rest) u.1) (whole, IsUtf8-from_is_utf8 (take n.0 n.1) u.0)
 
-pub text_again : (total : ℕ) (text rest : List ℕ) → IsUtf8 text → length text < 2 ^ 32 → text_at total (text_bytes text ++ rest) ≡ Ok (text, rest)
-unfolding text_at
+pub text_again : (total : ℕ) (text rest : List ℕ) → IsUtf8 text → length text < 2 ^ 32 → text_field total (text_bytes text ++ rest) ≡ Ok (text, rest)
+unfolding text_field
 text_again total text rest utf8 lt =
     let regrouped : text_bytes text ++ rest ≡ to_be_bytes w32 (length text) ++ (text ++ rest) = append_assoc (to_be_bytes w32 (length text)) text rest in
     let long : nat_le (length text) (length (text ++ rest)) ≡ true = le-leb _ _ (omega (arith, length-append text rest)) in
-    ap (text_at total) regrouped ∙ rw (number_again w32 (2 ^ 32) wide32 total (length text) (text ++ rest) lt, long, take_at text rest (length text) refl, drop_at text rest (length text) refl, is_utf8-from_IsUtf8 text utf8) refl
+    ap (text_field total) regrouped ∙ rw (number_again w32 (2 ^ 32) wide32 total (length text) (text ++ rest) lt, long, take_at text rest (length text) refl, drop_at text rest (length text) refl, is_utf8-from_IsUtf8 text utf8) refl
 
 -- ---- the laws of a field
 
@@ -143,22 +143,22 @@ pub record IsField {X : Type 0} (read : List ℕ → Field X) (bytes_of : X → 
   pub takes : (bytes : List ℕ) (x : X × List ℕ) → IsBytes bytes → read bytes ≡ Ok x → Took bytes_of Fits bytes x
   pub again : (x : X) (rest : List ℕ) → Fits x → length (bytes_of x) < 2 ^ 32 → read (bytes_of x ++ rest) ≡ Ok (x, rest)
 
-pub number_field : (w : Width) (limit : ℕ) (wide : IsWide w limit) (total : ℕ) → IsField (number_at w total) (to_be_bytes w) (λ n. n < limit)
-number_field w limit wide total = record {
+pub number_laws : (w : Width) (limit : ℕ) (wide : IsWide w limit) (total : ℕ) → IsField (number_field w total) (to_be_bytes w) (λ n. n < limit)
+number_laws w limit wide total = record {
   takes = λ bytes x fits e. number_takes w limit wide total bytes x.0 x.1 fits e;
   again = λ n rest fits lt. number_again w limit wide total n rest fits;
 }
 
-pub text_field : (total : ℕ) → IsField (text_at total) text_bytes IsUtf8
-text_field total = record {
+pub text_laws : (total : ℕ) → IsField (text_field total) text_bytes IsUtf8
+text_laws total = record {
   takes = λ bytes x fits e. text_takes total bytes x.0 x.1 fits e;
   again = λ text rest fits lt. text_again total text rest fits (omega (arith, lt, length-append (to_be_bytes w32 (length text)) text));
 }
 
 -- a field and the one behind it
-pub two_field : {A B : Type 0} (p : List ℕ → Field A) (q : List ℕ → Field B) (p_bytes : A → List ℕ) (q_bytes : B → List ℕ) (P : A → Type 0) (Q : B → Type 0)
+pub two_laws : {A B : Type 0} (p : List ℕ → Field A) (q : List ℕ → Field B) (p_bytes : A → List ℕ) (q_bytes : B → List ℕ) (P : A → Type 0) (Q : B → Type 0)
     → IsField p p_bytes P → IsField q q_bytes Q → IsField (two p q) (λ x. p_bytes x.0 ++ q_bytes x.1) (λ x. P x.0 × Q x.1)
-two_field {A = A} {B = B} p q p_bytes q_bytes P Q f g = record { takes = take_two; again = again_two }
+two_laws {A = A} {B = B} p q p_bytes q_bytes P Q f g = record { takes = take_two; again = again_two }
   where
     take_two : (bytes : List ℕ) (x : (A × B) × List ℕ) → IsBytes bytes → two p q bytes ≡ Ok x → Took (λ (y : A × B). p_bytes y.0 ++ q_bytes y.1) (λ (y : A × B). P y.0 × Q y.1) bytes x
     take_two bytes x fits e =
@@ -178,10 +178,10 @@ two_field {A = A} {B = B} p q p_bytes q_bytes P Q f g = record { takes = take_tw
         ap (two p q) (append_assoc (p_bytes x.0) (q_bytes x.1) rest) ∙ rw (f.again x.0 (q_bytes x.1 ++ rest) fits.0 first, g.again x.1 rest fits.1 second) refl
 
 -- a value that is made of a field's, which is a part of it
-pub made_field : {A X : Type 0} (make : A → X) (part : X → A) (p : List ℕ → Field A) (p_bytes : A → List ℕ) (P : A → Type 0) (bytes_of : X → List ℕ) (Fits : X → Type 0)
+pub made_laws : {A X : Type 0} (make : A → X) (part : X → A) (p : List ℕ → Field A) (p_bytes : A → List ℕ) (P : A → Type 0) (bytes_of : X → List ℕ) (Fits : X → Type 0)
     → ((a : A) → P a → (p_bytes a ≡ bytes_of (make a)) × Fits (make a)) → ((x : X) → Fits x → (bytes_of x ≡ p_bytes (part x)) × P (part x) × (make (part x) ≡ x))
     → IsField p p_bytes P → IsField (made_by make p) bytes_of Fits
-made_field {A = A} {X = X} make part p p_bytes P bytes_of Fits to of f = record { takes = take_made; again = again_made }
+made_laws {A = A} {X = X} make part p p_bytes P bytes_of Fits to of f = record { takes = take_made; again = again_made }
   where
     take_made : (bytes : List ℕ) (x : X × List ℕ) → IsBytes bytes → made_by make p bytes ≡ Ok x → Took bytes_of Fits bytes x
     take_made bytes x fits e =
@@ -226,16 +226,16 @@ repeated_again one bytes_of Fits field (x ∷ xs) rest fits lt =
     ap (repeated one (suc (length xs))) regrouped ∙ rw (field.again x (flat_map bytes_of xs ++ rest) fits.0 here, repeated_again one bytes_of Fits field xs rest fits.1 later) refl
 
 -- a count and so many fields, each of which has a byte at least
-pub counted_field : {X : Type 0} (one : List ℕ → Field X) (bytes_of : X → List ℕ) (Fits : X → Type 0) (total : ℕ) → ((x : X) → 1 ≤ length (bytes_of x)) → IsField one bytes_of Fits
+pub counted_laws : {X : Type 0} (one : List ℕ → Field X) (bytes_of : X → List ℕ) (Fits : X → Type 0) (total : ℕ) → ((x : X) → 1 ≤ length (bytes_of x)) → IsField one bytes_of Fits
     → IsField (counted total one) (λ xs. to_be_bytes w32 (length xs) ++ flat_map bytes_of xs) (AllByRecursion Fits)
-counted_field {X = X} one bytes_of Fits total long field = record { takes = take_all_of; again = again_all_of }
+counted_laws {X = X} one bytes_of Fits total long field = record { takes = take_all_of; again = again_all_of }
   where
     spelled : List X → List ℕ
     spelled xs = to_be_bytes w32 (length xs) ++ flat_map bytes_of xs
 
     take_all_of : (bytes : List ℕ) (x : List X × List ℕ) → IsBytes bytes → counted total one bytes ≡ Ok x → Took (λ (xs : List X). to_be_bytes w32 (length xs) ++ flat_map bytes_of xs) (AllByRecursion Fits) bytes x
     take_all_of bytes x fits e =
-        let a = bind_ok (number_at w32 total bytes) (λ n. repeated one n.0 n.1) x e in
+        let a = bind_ok (number_field w32 total bytes) (λ n. repeated one n.0 n.1) x e in
         let t = number_takes w32 (2 ^ 32) wide32 total bytes a.0.0 a.0.1 fits a.1 in
         let u = repeated_takes one bytes_of Fits field a.0.0 a.0.1 x t.0.rest_fits a.2 in
         let both = Takes-then bytes (to_be_bytes w32 a.0.0) a.0.1 (flat_map bytes_of x.0) x.1 t.0 u.0 in
@@ -278,21 +278,21 @@ abbrev pub AreCases : {X : Type 0} → (X → List ℕ) → (X → Type 0) → C
 AreCases bytes_of Fits [] = Unit {0}
 AreCases bytes_of Fits (one ∷ others) = IsCase bytes_of Fits one.0 one.1 × AreCases bytes_of Fits others
 
-chosen_takes : {X : Type 0} (bytes_of : X → List ℕ) (Fits : X → Type 0) (cases : Cases X) → AreCases bytes_of Fits cases → (at tag : ℕ) (all bytes : List ℕ) (x : X × List ℕ) → IsBytes bytes → chosen cases at tag bytes ≡ Ok x → Takes all (tag ∷ []) bytes → Took bytes_of Fits all x
-chosen_takes bytes_of Fits [] are at tag all bytes x fits e front = absurd cc
-chosen_takes {X = X} bytes_of Fits (one ∷ others) are at tag all bytes x fits e front = by_test (tag == one.0) refl e (λ k. chosen_takes bytes_of Fits others are.1 at tag all bytes x fits k front)
+field_behind_takes : {X : Type 0} (bytes_of : X → List ℕ) (Fits : X → Type 0) (cases : Cases X) → AreCases bytes_of Fits cases → (at tag : ℕ) (all bytes : List ℕ) (x : X × List ℕ) → IsBytes bytes → field_behind cases at tag bytes ≡ Ok x → Takes all (tag ∷ []) bytes → Took bytes_of Fits all x
+field_behind_takes bytes_of Fits [] are at tag all bytes x fits e front = absurd cc
+field_behind_takes {X = X} bytes_of Fits (one ∷ others) are at tag all bytes x fits e front = by_test (tag == one.0) refl e (λ k. field_behind_takes bytes_of Fits others are.1 at tag all bytes x fits k front)
   where
-    by_test : (b : Bool) → (tag == one.0) ≡ b → cond b (one.1 bytes) (chosen others at tag bytes) ≡ Ok x → (chosen others at tag bytes ≡ Ok x → Took bytes_of Fits all x) → Took bytes_of Fits all x
+    by_test : (b : Bool) → (tag == one.0) ≡ b → cond b (one.1 bytes) (field_behind others at tag bytes) ≡ Ok x → (field_behind others at tag bytes ≡ Ok x → Took bytes_of Fits all x) → Took bytes_of Fits all x
     by_test true t k later = are.0.takes all bytes x fits k (subst (λ n. Takes all (n ∷ []) bytes) (eqb-true tag one.0 t) front)
     by_test false t k later = later k
 
 -- a tag and the field behind it
-pub tagged_field : {X : Type 0} (bytes_of : X → List ℕ) (Fits : X → Type 0) (cases : Cases X) (total : ℕ) → AreCases bytes_of Fits cases
+pub tagged_laws : {X : Type 0} (bytes_of : X → List ℕ) (Fits : X → Type 0) (cases : Cases X) (total : ℕ) → AreCases bytes_of Fits cases
     → ((x : X) (rest : List ℕ) → Fits x → length (bytes_of x) < 2 ^ 32 → tagged total cases (bytes_of x ++ rest) ≡ Ok (x, rest)) → IsField (tagged total cases) bytes_of Fits
-tagged_field {X = X} bytes_of Fits cases total are back = record { takes = take_tagged; again = back }
+tagged_laws {X = X} bytes_of Fits cases total are back = record { takes = take_tagged; again = back }
   where
     take_tagged : (bytes : List ℕ) (x : X × List ℕ) → IsBytes bytes → tagged total cases bytes ≡ Ok x → Took bytes_of Fits bytes x
     take_tagged bytes x fits e =
-        let a = bind_ok (byte_at total bytes) (λ tag. chosen cases (place total bytes) tag.0 tag.1) x e in
+        let a = bind_ok (byte_field total bytes) (λ tag. field_behind cases (offset total bytes) tag.0 tag.1) x e in
         let t = byte_takes total bytes a.0.0 a.0.1 fits a.1 in
-        chosen_takes bytes_of Fits cases are (place total bytes) a.0.0 bytes a.0.1 x t.rest_fits a.2 t
+        field_behind_takes bytes_of Fits cases are (offset total bytes) a.0.0 bytes a.0.1 x t.rest_fits a.2 t

@@ -7,30 +7,30 @@ use Rattle.doll_journal.specs.declared.fault.JournalFault.{JournalFault}
 use Rattle.doll_journal.specs.declared.fault.JournalFault.TheVariants.{Truncated, BadTag, BadText}
 
 -- where the rest of so many bytes begins
-abbrev pub place : ℕ → List ℕ → ℕ
-place total rest = total - length rest
+abbrev pub offset : ℕ → List ℕ → ℕ
+offset total rest = total - length rest
 
 -- a field and the bytes after it, or the first fault
 abbrev pub Field : Type 0 → Type 0
 Field X = Result (X × List ℕ) JournalFault
 
 -- a byte
-abbrev pub byte_at : ℕ → List ℕ → Field ℕ
-byte_at total [] = Err (Truncated (place total []))
-byte_at total (b ∷ rest) = Ok (b, rest)
+abbrev pub byte_field : ℕ → List ℕ → Field ℕ
+byte_field total [] = Err (Truncated (offset total []))
+byte_field total (b ∷ rest) = Ok (b, rest)
 
 -- a number of this width
-abbrev pub number_at : Width → ℕ → List ℕ → Field ℕ
-number_at w total bytes = do
-  check (nat_le (byte_len w) (length bytes)) (Truncated (place total bytes))
+abbrev pub number_field : Width → ℕ → List ℕ → Field ℕ
+number_field w total bytes = do
+  check (nat_le (byte_len w) (length bytes)) (Truncated (offset total bytes))
   Ok (from_be_bytes w (take (byte_len w) bytes), drop (byte_len w) bytes)
 
 -- a text behind its length
-unfoldable pub text_at : ℕ → List ℕ → Field (List ℕ)
-text_at total bytes = do
-  n ← number_at w32 total bytes
-  check (nat_le n.0 (length n.1)) (Truncated (place total n.1))
-  check (is_utf8 (take n.0 n.1)) (BadText (place total n.1))
+unfoldable pub text_field : ℕ → List ℕ → Field (List ℕ)
+text_field total bytes = do
+  n ← number_field w32 total bytes
+  check (nat_le n.0 (length n.1)) (Truncated (offset total n.1))
+  check (is_utf8 (take n.0 n.1)) (BadText (offset total n.1))
   Ok (take n.0 n.1, drop n.0 n.1)
 
 -- a value that has no bytes of its own
@@ -59,7 +59,7 @@ repeated one (suc n) bytes = do
 -- fields of one sort behind their count
 abbrev pub counted : {X : Type 0} → ℕ → (List ℕ → Field X) → List ℕ → Field (List X)
 counted total one bytes = do
-  n ← number_at w32 total bytes
+  n ← number_field w32 total bytes
   repeated one n.0 n.1
 
 -- fields by their tags
@@ -67,12 +67,12 @@ abbrev pub Cases : Type 0 → Type 0
 Cases X = List (ℕ × (List ℕ → Field X))
 
 -- the field behind this tag, which stands at a place
-abbrev pub chosen : {X : Type 0} → Cases X → ℕ → ℕ → List ℕ → Field X
-chosen [] at tag bytes = Err (BadTag at)
-chosen (one ∷ others) at tag bytes = if tag == one.0 then one.1 bytes else chosen others at tag bytes
+abbrev pub field_behind : {X : Type 0} → Cases X → ℕ → ℕ → List ℕ → Field X
+field_behind [] at tag bytes = Err (BadTag at)
+field_behind (one ∷ others) at tag bytes = if tag == one.0 then one.1 bytes else field_behind others at tag bytes
 
 -- a tag and the field behind it
 abbrev pub tagged : {X : Type 0} → ℕ → Cases X → List ℕ → Field X
 tagged total cases bytes = do
-  tag ← byte_at total bytes
-  chosen cases (place total bytes) tag.0 tag.1
+  tag ← byte_field total bytes
+  field_behind cases (offset total bytes) tag.0 tag.1

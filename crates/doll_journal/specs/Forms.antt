@@ -10,21 +10,21 @@ use Rattle.doll_journal.specs.declared.change.Change.{Change}
 use Rattle.doll_journal.specs.declared.change.Change.TheVariants as changes
 
 -- a text that isn't too long for a change
-abbrev pub short : List ℕ → Option (List ℕ)
-short text = if nat_le (length text) 1048576 then Some text else None
+abbrev pub short_text : List ℕ → Option (List ℕ)
+short_text text = if nat_le (length text) 1048576 then Some text else None
 
 -- a value that an attribute may get: null, a truth value, a whole number of 64 bits, or a short text
 abbrev pub value_in : Data → Option Value
 value_in null = Some values.Nil
 value_in (boolean b) = Some (values.Bool b)
 value_in (number n) = option_map values.Int (as_i64 n)
-value_in (string s) = option_map values.Text (short s)
+value_in (string s) = option_map values.Text (short_text s)
 value_in (array ds) = None
 value_in (object ms) = None
 
 -- a name with its value
 abbrev pub pair_in : List ℕ → Data → Option (List ℕ × Value)
-pair_in name d = option_and_then (λ n. option_map (λ v. (n, v)) (value_in d)) (short name)
+pair_in name d = option_and_then (λ n. option_map (λ v. (n, v)) (value_in d)) (short_text name)
 
 -- a value before others
 abbrev pub with_first : {X : Type 0} → Option X → Option (List X) → Option (List X)
@@ -49,7 +49,7 @@ id_at d = option_and_then (λ n. if nat_lt n (2 ^ 32) then Some n else None) (wh
 
 -- the name of a model
 abbrev pub model_at : List ℕ → Data → Option (List ℕ)
-model_at key d = option_and_then short (text_at key d)
+model_at key d = option_and_then short_text (text_at key d)
 
 -- the four forms, each with exactly its keys
 abbrev pub create_in : Data → Option Change

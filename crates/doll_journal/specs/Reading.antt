@@ -9,7 +9,7 @@ use Rattle.doll_journal.specs.declared.change.Change.TheVariants as changes
 use Rattle.doll_journal.specs.declared.change.Commit.{Commit}
 use Rattle.doll_journal.specs.declared.fault.JournalFault.{JournalFault}
 use Rattle.doll_journal.specs.declared.fault.JournalFault.TheVariants.{TooLarge, Trailing}
-use Rattle.doll_journal.specs.Fields.{place, Field, number_at, text_at, nothing, made_by, two, counted, Cases, tagged}
+use Rattle.doll_journal.specs.Fields.{offset, Field, number_field, text_field, nothing, made_by, two, counted, Cases, tagged}
 
 -- a value by its tag; a whole number in two's complement
 abbrev pub value_cases : ℕ → Cases Value
@@ -17,59 +17,59 @@ value_cases total =
     (0, nothing values.Nil)
     ∷ (1, nothing (values.Bool false))
     ∷ (2, nothing (values.Bool true))
-    ∷ (3, made_by (λ n. values.Int (cast_signed w64 n)) (number_at w64 total))
-    ∷ (4, made_by values.Text (text_at total))
+    ∷ (3, made_by (λ n. values.Int (cast_signed w64 n)) (number_field w64 total))
+    ∷ (4, made_by values.Text (text_field total))
     ∷ []
 
-unfoldable pub value_at : ℕ → List ℕ → Field Value
-value_at total = tagged total (value_cases total)
+unfoldable pub value_field : ℕ → List ℕ → Field Value
+value_field total = tagged total (value_cases total)
 
 -- a name and its value
-unfoldable pub pair_at : ℕ → List ℕ → Field (List ℕ × Value)
-pair_at total = two (text_at total) (value_at total)
+unfoldable pub pair_field : ℕ → List ℕ → Field (List ℕ × Value)
+pair_field total = two (text_field total) (value_field total)
 
 -- names with values behind their count
-unfoldable pub given_at : ℕ → List ℕ → Field (List (List ℕ × Value))
-given_at total = counted total (pair_at total)
+unfoldable pub given_field : ℕ → List ℕ → Field (List (List ℕ × Value))
+given_field total = counted total (pair_field total)
 
 -- a model and what it is given
-unfoldable pub create_at : ℕ → List ℕ → Field Change
-create_at total = made_by (λ x. changes.Create x.0 x.1) (two (text_at total) (given_at total))
+unfoldable pub create_field : ℕ → List ℕ → Field Change
+create_field total = made_by (λ x. changes.Create x.0 x.1) (two (text_field total) (given_field total))
 
 -- a model, an id and what it is given
-unfoldable pub update_at : ℕ → List ℕ → Field Change
-update_at total = made_by (λ x. changes.Update x.0 x.1.0 x.1.1) (two (text_at total) (two (number_at w32 total) (given_at total)))
+unfoldable pub update_field : ℕ → List ℕ → Field Change
+update_field total = made_by (λ x. changes.Update x.0 x.1.0 x.1.1) (two (text_field total) (two (number_field w32 total) (given_field total)))
 
 -- a model and an id
-unfoldable pub mark_at : ℕ → List ℕ → Field (List ℕ × ℕ)
-mark_at total = two (text_at total) (number_at w32 total)
+unfoldable pub model_id_field : ℕ → List ℕ → Field (List ℕ × ℕ)
+model_id_field total = two (text_field total) (number_field w32 total)
 
 -- a change by its tag
 abbrev pub change_cases : ℕ → Cases Change
 change_cases total =
-    (1, create_at total)
-    ∷ (2, update_at total)
-    ∷ (3, made_by (λ m. changes.Destroy m.0 m.1) (mark_at total))
-    ∷ (4, made_by (λ m. changes.Touch m.0 m.1) (mark_at total))
+    (1, create_field total)
+    ∷ (2, update_field total)
+    ∷ (3, made_by (λ m. changes.Destroy m.0 m.1) (model_id_field total))
+    ∷ (4, made_by (λ m. changes.Touch m.0 m.1) (model_id_field total))
     ∷ []
 
-unfoldable pub change_at : ℕ → List ℕ → Field Change
-change_at total = tagged total (change_cases total)
+unfoldable pub change_field : ℕ → List ℕ → Field Change
+change_field total = tagged total (change_cases total)
 
 -- changes behind their count
-unfoldable pub changes_at : ℕ → List ℕ → Field (List Change)
-changes_at total = counted total (change_at total)
+unfoldable pub changes_field : ℕ → List ℕ → Field (List Change)
+changes_field total = counted total (change_field total)
 
 -- the author, the serial number, the moment and the changes
-unfoldable pub commit_at : ℕ → List ℕ → Field Commit
-commit_at total =
+unfoldable pub commit_field : ℕ → List ℕ → Field Commit
+commit_field total =
     made_by (λ x. record { author = x.0; serial = x.1.0; moment = x.1.1.0; changes = x.1.1.1 })
-    (two (number_at w32 total) (two (number_at w64 total) (two (number_at w64 total) (changes_at total))))
+    (two (number_field w32 total) (two (number_field w64 total) (two (number_field w64 total) (changes_field total))))
 
 -- all of the bytes as a commit, of which there may be 2^31
 unfoldable pub commit_of : List ℕ → Result Commit JournalFault
 commit_of bytes = do
   check (nat_le (length bytes) (2 ^ 31)) (TooLarge (2 ^ 31))
-  commit ← commit_at (length bytes) bytes
-  check (length commit.1 == 0) (Trailing (place (length bytes) commit.1))
+  commit ← commit_field (length bytes) bytes
+  check (length commit.1 == 0) (Trailing (offset (length bytes) commit.1))
   Ok commit.0

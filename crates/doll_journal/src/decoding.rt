@@ -7,8 +7,8 @@ ghost use Rattle.doll_journal.specs.declared.change.Commit.{Commit};
 ghost use Rattle.doll_journal.specs.Spelling.{spelling};
 ghost use Rattle.doll_journal.specs.Storable.{IsStorable, OneSpelling};
 ghost use Rattle.doll_text.specs.Gives.{GivesBy, GivesExactly};
-ghost use Rattle.doll_journal.specs.Fields.{place, byte_at, number_at, text_at, repeated, chosen};
-ghost use Rattle.doll_journal.specs.Reading.{value_cases, value_at, pair_at, given_at, create_at, update_at, mark_at, change_cases, change_at, changes_at, commit_at, commit_of};
+ghost use Rattle.doll_journal.specs.Fields.{offset, byte_field, number_field, text_field, repeated, field_behind};
+ghost use Rattle.doll_journal.specs.Reading.{value_cases, value_field, pair_field, given_field, create_field, update_field, model_id_field, change_cases, change_field, changes_field, commit_field, commit_of};
 
 use crate::change::{Change, Changes, Commit, Given};
 use crate::fault::JournalFault;
@@ -43,30 +43,30 @@ fn commit_of(alloc: Global, bytes: &[u8]) -> Result<Commit, JournalFault>
     if bytes.len() as u64 > MOST_BYTES {
         return Err(JournalFault::TooLarge { limit: MOST_BYTES });
     }
-    let (commit, rest) = commit_at(alloc, bytes.len(), bytes)?;
+    let (commit, rest) = commit_field(alloc, bytes.len(), bytes)?;
     if !rest.is_empty() {
         return Err(JournalFault::Trailing {
-            at: place(bytes.len(), rest),
+            at: offset(bytes.len(), rest),
         });
     }
     Ok(commit)
 }
 
 /// Where the rest of so many bytes begins.
-fn place(total: usize, rest: &[u8]) -> u64
-    ensures { result ≡ place total rest.now }
+fn offset(total: usize, rest: &[u8]) -> u64
+    ensures { result ≡ offset total rest.now }
 {
     total.saturating_sub(rest.len()) as u64
 }
 
-#[tactic(auto, unfolding(crate::specs::Reading::commit_at))]
-fn commit_at(alloc: Global, total: usize, bytes: &[u8]) -> Result<(Commit, &[u8]), JournalFault>
-    ensures { GivesBy (λ x. (x.0, x.1.now)) JournalFault.Memory (commit_at total bytes.now) result }
+#[tactic(auto, unfolding(crate::specs::Reading::commit_field))]
+fn commit_field(alloc: Global, total: usize, bytes: &[u8]) -> Result<(Commit, &[u8]), JournalFault>
+    ensures { GivesBy (λ x. (x.0, x.1.now)) JournalFault.Memory (commit_field total bytes.now) result }
 {
-    let (author, rest) = u32_at(total, bytes)?;
-    let (serial, rest) = u64_at(total, rest)?;
-    let (moment, rest) = u64_at(total, rest)?;
-    let (changes, rest) = changes_at(alloc, total, rest)?;
+    let (author, rest) = u32_field(total, bytes)?;
+    let (serial, rest) = u64_field(total, rest)?;
+    let (moment, rest) = u64_field(total, rest)?;
+    let (changes, rest) = changes_field(alloc, total, rest)?;
     let commit = Commit {
         author,
         serial,
@@ -76,23 +76,23 @@ fn commit_at(alloc: Global, total: usize, bytes: &[u8]) -> Result<(Commit, &[u8]
     Ok((commit, rest))
 }
 
-fn byte_at(total: usize, bytes: &[u8]) -> Result<(u8, &[u8]), JournalFault>
-    ensures { GivesExactly (λ x. (x.0, x.1.now)) (byte_at total bytes.now) result }
+fn byte_field(total: usize, bytes: &[u8]) -> Result<(u8, &[u8]), JournalFault>
+    ensures { GivesExactly (λ x. (x.0, x.1.now)) (byte_field total bytes.now) result }
 {
     let [byte, rest @ ..] = bytes else {
         return Err(JournalFault::Truncated {
-            at: place(total, bytes),
+            at: offset(total, bytes),
         });
     };
     Ok((*byte, rest))
 }
 
-fn u32_at(total: usize, bytes: &[u8]) -> Result<(u32, &[u8]), JournalFault>
-    ensures { GivesExactly (λ x. (x.0, x.1.now)) (number_at w32 total bytes.now) result }
+fn u32_field(total: usize, bytes: &[u8]) -> Result<(u32, &[u8]), JournalFault>
+    ensures { GivesExactly (λ x. (x.0, x.1.now)) (number_field w32 total bytes.now) result }
 {
     if bytes.len() < 4 {
         return Err(JournalFault::Truncated {
-            at: place(total, bytes),
+            at: offset(total, bytes),
         });
     }
     let (front, rest) = bytes.split_at(4);
@@ -100,12 +100,12 @@ fn u32_at(total: usize, bytes: &[u8]) -> Result<(u32, &[u8]), JournalFault>
     Ok((number, rest))
 }
 
-fn u64_at(total: usize, bytes: &[u8]) -> Result<(u64, &[u8]), JournalFault>
-    ensures { GivesExactly (λ x. (x.0, x.1.now)) (number_at w64 total bytes.now) result }
+fn u64_field(total: usize, bytes: &[u8]) -> Result<(u64, &[u8]), JournalFault>
+    ensures { GivesExactly (λ x. (x.0, x.1.now)) (number_field w64 total bytes.now) result }
 {
     if bytes.len() < 8 {
         return Err(JournalFault::Truncated {
-            at: place(total, bytes),
+            at: offset(total, bytes),
         });
     }
     let (front, rest) = bytes.split_at(8);
@@ -116,13 +116,13 @@ fn u64_at(total: usize, bytes: &[u8]) -> Result<(u64, &[u8]), JournalFault>
 }
 
 /// The bytes of a text, and those after it.
-#[tactic(auto, unfolding(crate::specs::Fields::text_at))]
-fn text_at(total: usize, bytes: &[u8]) -> Result<(&[u8], &[u8]), JournalFault>
-    ensures { GivesExactly (λ x. (x.0.now, x.1.now)) (text_at total bytes.now) result }
+#[tactic(auto, unfolding(crate::specs::Fields::text_field))]
+fn text_field(total: usize, bytes: &[u8]) -> Result<(&[u8], &[u8]), JournalFault>
+    ensures { GivesExactly (λ x. (x.0.now, x.1.now)) (text_field total bytes.now) result }
 {
-    let (len, rest) = u32_at(total, bytes)?;
+    let (len, rest) = u32_field(total, bytes)?;
     let len = len as usize;
-    let at = place(total, rest);
+    let at = offset(total, rest);
     if rest.len() < len {
         return Err(JournalFault::Truncated { at });
     }
@@ -133,12 +133,12 @@ fn text_at(total: usize, bytes: &[u8]) -> Result<(&[u8], &[u8]), JournalFault>
     Ok((text, after))
 }
 
-#[tactic(auto, unfolding(crate::specs::Reading::value_at))]
-fn value_at(alloc: Global, total: usize, bytes: &[u8]) -> Result<(Value, &[u8]), JournalFault>
-    ensures { GivesBy (λ x. (x.0, x.1.now)) JournalFault.Memory (value_at total bytes.now) result }
+#[tactic(auto, unfolding(crate::specs::Reading::value_field))]
+fn value_field(alloc: Global, total: usize, bytes: &[u8]) -> Result<(Value, &[u8]), JournalFault>
+    ensures { GivesBy (λ x. (x.0, x.1.now)) JournalFault.Memory (value_field total bytes.now) result }
 {
-    let (tag, rest) = byte_at(total, bytes)?;
-    tagged_value(alloc, total, place(total, bytes), tag, rest)
+    let (tag, rest) = byte_field(total, bytes)?;
+    tagged_value(alloc, total, offset(total, bytes), tag, rest)
 }
 
 fn tagged_value(
@@ -149,94 +149,98 @@ fn tagged_value(
     bytes: &[u8],
 ) -> Result<(Value, &[u8]), JournalFault>
     ensures { GivesBy (λ x. (x.0, x.1.now)) JournalFault.Memory
-        (chosen (value_cases total) at tag bytes.now) result }
+        (field_behind (value_cases total) at tag bytes.now) result }
 {
     match tag {
         0 => Ok((Value::Nil, bytes)),
         1 => Ok((Value::Bool(false), bytes)),
         2 => Ok((Value::Bool(true), bytes)),
         3 => {
-            let (number, rest) = u64_at(total, bytes)?;
+            let (number, rest) = u64_field(total, bytes)?;
             Ok((Value::Int(number.cast_signed()), rest))
         }
         4 => {
-            let (text, rest) = text_at(total, bytes)?;
+            let (text, rest) = text_field(total, bytes)?;
             Ok((Value::Text(Text::from_bytes(alloc, text)?), rest))
         }
         _ => Err(JournalFault::BadTag { at }),
     }
 }
 
-#[tactic(auto, unfolding(crate::specs::Reading::pair_at))]
-fn pair_at(
+#[tactic(auto, unfolding(crate::specs::Reading::pair_field))]
+fn pair_field(
     alloc: Global,
     total: usize,
     bytes: &[u8],
 ) -> Result<((Name, Value), &[u8]), JournalFault>
-    ensures { GivesBy (λ x. (x.0, x.1.now)) JournalFault.Memory (pair_at total bytes.now) result }
+    ensures { GivesBy (λ x. (x.0, x.1.now)) JournalFault.Memory (pair_field total bytes.now) result }
 {
-    let (name, rest) = text_at(total, bytes)?;
+    let (name, rest) = text_field(total, bytes)?;
     let name = Name::from_bytes(alloc, name)?;
-    let (value, rest) = value_at(alloc, total, rest)?;
+    let (value, rest) = value_field(alloc, total, rest)?;
     Ok(((name, value), rest))
 }
 
-fn pairs_at(
+fn pair_list(
     alloc: Global,
     total: usize,
     count: u32,
     bytes: &[u8],
 ) -> Result<(Given, &[u8]), JournalFault>
     ensures { GivesBy (λ x. (x.0, x.1.now)) JournalFault.Memory
-        (repeated (pair_at total) count bytes.now) result }
+        (repeated (pair_field total) count bytes.now) result }
 {
     let mut given = Items::new(alloc);
     let mut rest = bytes;
     for _ in 0..count {
-        let (pair, after) = pair_at(alloc, total, rest)?;
+        let (pair, after) = pair_field(alloc, total, rest)?;
         given.push(pair)?;
         rest = after;
     }
     Ok((given, rest))
 }
 
-#[tactic(auto, unfolding(crate::specs::Reading::given_at))]
-fn given_at(alloc: Global, total: usize, bytes: &[u8]) -> Result<(Given, &[u8]), JournalFault>
-    ensures { GivesBy (λ x. (x.0, x.1.now)) JournalFault.Memory (given_at total bytes.now) result }
+#[tactic(auto, unfolding(crate::specs::Reading::given_field))]
+fn given_field(alloc: Global, total: usize, bytes: &[u8]) -> Result<(Given, &[u8]), JournalFault>
+    ensures { GivesBy (λ x. (x.0, x.1.now)) JournalFault.Memory (given_field total bytes.now) result }
 {
-    let (count, rest) = u32_at(total, bytes)?;
-    pairs_at(alloc, total, count, rest)
+    let (count, rest) = u32_field(total, bytes)?;
+    pair_list(alloc, total, count, rest)
 }
 
-#[tactic(auto, unfolding(crate::specs::Reading::create_at))]
-fn create_at(alloc: Global, total: usize, bytes: &[u8]) -> Result<(Change, &[u8]), JournalFault>
-    ensures { GivesBy (λ x. (x.0, x.1.now)) JournalFault.Memory (create_at total bytes.now) result }
+#[tactic(auto, unfolding(crate::specs::Reading::create_field))]
+fn create_field(alloc: Global, total: usize, bytes: &[u8]) -> Result<(Change, &[u8]), JournalFault>
+    ensures { GivesBy (λ x. (x.0, x.1.now)) JournalFault.Memory (create_field total bytes.now) result }
 {
-    let (model, rest) = text_at(total, bytes)?;
+    let (model, rest) = text_field(total, bytes)?;
     let model = Name::from_bytes(alloc, model)?;
-    let (values, rest) = given_at(alloc, total, rest)?;
+    let (values, rest) = given_field(alloc, total, rest)?;
     Ok((Change::Create { model, values }, rest))
 }
 
-#[tactic(auto, unfolding(crate::specs::Reading::update_at))]
-fn update_at(alloc: Global, total: usize, bytes: &[u8]) -> Result<(Change, &[u8]), JournalFault>
-    ensures { GivesBy (λ x. (x.0, x.1.now)) JournalFault.Memory (update_at total bytes.now) result }
+#[tactic(auto, unfolding(crate::specs::Reading::update_field))]
+fn update_field(alloc: Global, total: usize, bytes: &[u8]) -> Result<(Change, &[u8]), JournalFault>
+    ensures { GivesBy (λ x. (x.0, x.1.now)) JournalFault.Memory (update_field total bytes.now) result }
 {
-    let (model, rest) = text_at(total, bytes)?;
+    let (model, rest) = text_field(total, bytes)?;
     let model = Name::from_bytes(alloc, model)?;
-    let (id, rest) = u32_at(total, rest)?;
-    let (values, rest) = given_at(alloc, total, rest)?;
+    let (id, rest) = u32_field(total, rest)?;
+    let (values, rest) = given_field(alloc, total, rest)?;
     Ok((Change::Update { model, id, values }, rest))
 }
 
 /// The name of a model and an id of it.
-#[tactic(auto, unfolding(crate::specs::Reading::mark_at))]
-fn mark_at(alloc: Global, total: usize, bytes: &[u8]) -> Result<((Name, u32), &[u8]), JournalFault>
-    ensures { GivesBy (λ x. (x.0, x.1.now)) JournalFault.Memory (mark_at total bytes.now) result }
+#[tactic(auto, unfolding(crate::specs::Reading::model_id_field))]
+fn model_id_field(
+    alloc: Global,
+    total: usize,
+    bytes: &[u8],
+) -> Result<((Name, u32), &[u8]), JournalFault>
+    ensures { GivesBy (λ x. (x.0, x.1.now)) JournalFault.Memory (model_id_field total bytes.now) result }
 {
-    let (model, rest) = text_at(total, bytes)?;
+    let (model, rest) = text_field(total, bytes)?;
     let model = Name::from_bytes(alloc, model)?;
-    let (id, rest) = u32_at(total, rest)?;
+    let (id, rest) = u32_field(total, rest)?;
     Ok(((model, id), rest))
 }
 
@@ -248,55 +252,59 @@ fn tagged_change(
     bytes: &[u8],
 ) -> Result<(Change, &[u8]), JournalFault>
     ensures { GivesBy (λ x. (x.0, x.1.now)) JournalFault.Memory
-        (chosen (change_cases total) at tag bytes.now) result }
+        (field_behind (change_cases total) at tag bytes.now) result }
 {
     match tag {
-        1 => create_at(alloc, total, bytes),
-        2 => update_at(alloc, total, bytes),
+        1 => create_field(alloc, total, bytes),
+        2 => update_field(alloc, total, bytes),
         3 => {
-            let ((model, id), rest) = mark_at(alloc, total, bytes)?;
+            let ((model, id), rest) = model_id_field(alloc, total, bytes)?;
             Ok((Change::Destroy { model, id }, rest))
         }
         4 => {
-            let ((model, id), rest) = mark_at(alloc, total, bytes)?;
+            let ((model, id), rest) = model_id_field(alloc, total, bytes)?;
             Ok((Change::Touch { model, id }, rest))
         }
         _ => Err(JournalFault::BadTag { at }),
     }
 }
 
-#[tactic(auto, unfolding(crate::specs::Reading::change_at))]
-fn change_at(alloc: Global, total: usize, bytes: &[u8]) -> Result<(Change, &[u8]), JournalFault>
-    ensures { GivesBy (λ x. (x.0, x.1.now)) JournalFault.Memory (change_at total bytes.now) result }
+#[tactic(auto, unfolding(crate::specs::Reading::change_field))]
+fn change_field(alloc: Global, total: usize, bytes: &[u8]) -> Result<(Change, &[u8]), JournalFault>
+    ensures { GivesBy (λ x. (x.0, x.1.now)) JournalFault.Memory (change_field total bytes.now) result }
 {
-    let (tag, rest) = byte_at(total, bytes)?;
-    tagged_change(alloc, total, place(total, bytes), tag, rest)
+    let (tag, rest) = byte_field(total, bytes)?;
+    tagged_change(alloc, total, offset(total, bytes), tag, rest)
 }
 
-fn list_at(
+fn change_list(
     alloc: Global,
     total: usize,
     count: u32,
     bytes: &[u8],
 ) -> Result<(Changes, &[u8]), JournalFault>
     ensures { GivesBy (λ x. (x.0, x.1.now)) JournalFault.Memory
-        (repeated (change_at total) count bytes.now) result }
+        (repeated (change_field total) count bytes.now) result }
 {
     let mut changes = Items::new(alloc);
     let mut rest = bytes;
     for _ in 0..count {
-        let (change, after) = change_at(alloc, total, rest)?;
+        let (change, after) = change_field(alloc, total, rest)?;
         changes.push(change)?;
         rest = after;
     }
     Ok((changes, rest))
 }
 
-#[tactic(auto, unfolding(crate::specs::Reading::changes_at))]
-fn changes_at(alloc: Global, total: usize, bytes: &[u8]) -> Result<(Changes, &[u8]), JournalFault>
-    ensures { GivesBy (λ x. (x.0, x.1.now)) JournalFault.Memory (changes_at total bytes.now)
+#[tactic(auto, unfolding(crate::specs::Reading::changes_field))]
+fn changes_field(
+    alloc: Global,
+    total: usize,
+    bytes: &[u8],
+) -> Result<(Changes, &[u8]), JournalFault>
+    ensures { GivesBy (λ x. (x.0, x.1.now)) JournalFault.Memory (changes_field total bytes.now)
         result }
 {
-    let (count, rest) = u32_at(total, bytes)?;
-    list_at(alloc, total, count, rest)
+    let (count, rest) = u32_field(total, bytes)?;
+    change_list(alloc, total, count, rest)
 }

@@ -50,13 +50,13 @@ fn put_change(out: &mut Vec<u8>, change: &Change) -> Result<(), Memory>
             out.extend_from_slice(&id.to_be_bytes())?;
             put_given(out, values.as_slice())
         }
-        Change::Destroy { model, id } => put_mark(out, 3, model, *id),
-        Change::Touch { model, id } => put_mark(out, 4, model, *id),
+        Change::Destroy { model, id } => put_model_id(out, 3, model, *id),
+        Change::Touch { model, id } => put_model_id(out, 4, model, *id),
     }
 }
 
 /// A tag, a model and an id.
-fn put_mark(out: &mut Vec<u8>, tag: u8, model: &Name, id: u32) -> Result<(), Memory>
+fn put_model_id(out: &mut Vec<u8>, tag: u8, model: &Name, id: u32) -> Result<(), Memory>
     requires { length model.now < 2 ^ 32 }
     ensures { OnOk result
         (out.new.items ≡ out.old.items ++ tag ∷ (text_bytes model.now ++ to_be_bytes w32 id)) }

@@ -6,7 +6,7 @@ ghost use Rattle.std.specs.Str.{IsUtf8};
 ghost use Rattle.serde_json.specs.View.{items_view, members_view, view};
 ghost use Rattle.serde_json.specs.Find.{get};
 ghost use Rattle.doll_journal.specs.Storable.{FitsValue, FitsPair, FitsChange, AreStorable};
-ghost use Rattle.doll_journal.specs.Forms.{value_in, pair_in, pairs_in, given_in, given_at, id_at, model_at, short, create_in, update_in, destroy_in, touch_in, change_in, list_in, changes_in};
+ghost use Rattle.doll_journal.specs.Forms.{value_in, pair_in, pairs_in, given_in, given_at, id_at, model_at, short_text, create_in, update_in, destroy_in, touch_in, change_in, list_in, changes_in};
 
 use crate::change::{Change, Changes, Given};
 use crate::lengths::have_room;
@@ -152,7 +152,7 @@ fn model_at(alloc: Global, json: &serde_json::Value, key: &str) -> Result<Option
     let Some(text) = text_at(json, key) else {
         return Ok(None);
     };
-    let Some(name) = short(alloc, text)? else {
+    let Some(name) = short_text(alloc, text)? else {
         return Ok(None);
     };
     Ok(Some(Name::from_vec(name)))
@@ -162,8 +162,8 @@ fn model_at(alloc: Global, json: &serde_json::Value, key: &str) -> Result<Option
 const LONGEST: usize = 1_048_576;
 
 /// The bytes of a text that isn't too long for a change.
-fn short(alloc: Global, text: &str) -> Result<Option<Vec<u8>>, Memory>
-    ensures exact { IfOk result (λ o. option_map (λ v. v.items) o ≡ short text.now) }
+fn short_text(alloc: Global, text: &str) -> Result<Option<Vec<u8>>, Memory>
+    ensures exact { IfOk result (λ o. option_map (λ v. v.items) o ≡ short_text text.now) }
     ensures fits { IfOk result (λ o. IfSome o (λ v. IsUtf8 v.items)) }
 {
     if text.len() > LONGEST {
@@ -222,7 +222,7 @@ fn pair_in(
     ensures exact { IfOk result (λ o. o ≡ pair_in name.now (view json.now)) }
     ensures fits { IfOk result (λ o. IfSome o FitsPair) }
 {
-    let Some(name) = short(alloc, name)? else {
+    let Some(name) = short_text(alloc, name)? else {
         return Ok(None);
     };
     let Some(value) = value_in(alloc, json)? else {
@@ -239,7 +239,7 @@ fn value_in(alloc: Global, json: &serde_json::Value) -> Result<Option<Value>, Me
         serde_json::Value::Null => Ok(Some(Value::Nil)),
         serde_json::Value::Bool(value) => Ok(Some(Value::Bool(*value))),
         serde_json::Value::Number(number) => Ok(number.as_i64().map(Value::Int)),
-        serde_json::Value::String(text) => match short(alloc, text.as_str())? {
+        serde_json::Value::String(text) => match short_text(alloc, text.as_str())? {
             None => Ok(None),
             Some(text) => Ok(Some(Value::Text(Text::from_vec(text)))),
         },
