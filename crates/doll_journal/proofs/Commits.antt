@@ -12,6 +12,7 @@ use Rattle.doll_text.specs.Gives.{Gives}
 use Rattle.doll_schema.specs.declared.value.Value.{Value}
 use Rattle.doll_schema.specs.declared.value.Value.TheVariants as values
 use Rattle.doll_text.specs.Steps.{◌>>=◌, ◌>>◌, check}
+use Rattle.doll_journal.specs.declared.lengths.TheConstants.{MOST_BYTES}
 use Rattle.doll_journal.specs.declared.change.Change.{Change}
 use Rattle.doll_journal.specs.declared.change.Change.TheVariants as changes
 use Rattle.doll_journal.specs.declared.change.Commit.{Commit}
@@ -143,7 +144,7 @@ spelling_len c = omega arith
 pub all_takes : (bytes : List ℕ) (c : Commit) → IsBytes bytes → commit_of bytes ≡ Ok c → (bytes ≡ spelling c) × IsStorable c
 unfolding commit_of
 all_takes bytes c fits e =
-    let g = check_ok (nat_le (length bytes) (2 ^ 31)) (TooLarge (2 ^ 31)) (commit_field (length bytes) bytes >>= (λ commit. check (length commit.1 == 0) (Trailing (offset (length bytes) commit.1)) >> Ok commit.0)) c e in
+    let g = check_ok (nat_le (length bytes) MOST_BYTES) (TooLarge MOST_BYTES) (commit_field (length bytes) bytes >>= (λ commit. check (length commit.1 == 0) (Trailing (offset (length bytes) commit.1)) >> Ok commit.0)) c e in
     let a = bind_ok (commit_field (length bytes) bytes) (λ commit. check (length commit.1 == 0) (Trailing (offset (length bytes) commit.1)) >> Ok commit.0) c g.1 in
     let h = check_ok (length a.0.1 == 0) (Trailing (offset (length bytes) a.0.1)) (Ok a.0.0) c a.2 in
     let t = (commit_laws (length bytes)).takes bytes a.0 fits a.1 in
@@ -157,7 +158,7 @@ all_takes bytes c fits e =
 pub all_again : (c : Commit) → IsStorable c → commit_of (spelling c) ≡ Ok c
 unfolding commit_of
 all_again c fits =
-    let room : nat_le (length (spelling c)) (2 ^ 31) ≡ true = le-leb _ _ (omega (arith, fits.3.1, spelling_len c)) in
+    let room : nat_le (length (spelling c)) MOST_BYTES ≡ true = le-leb _ _ (omega (arith, fits.3.1, spelling_len c)) in
     let total = length (spelling c) in
     let read : commit_field (length (spelling c)) (spelling c) ≡ Ok (c, []) = ap (commit_field (length (spelling c))) (sym (append-nil (spelling c))) ∙ (commit_laws (length (spelling c))).again c [] (fits.0, fits.1, fits.2, fits.3.0) (omega (arith, fits.3.1, spelling_len c)) in
     rw (room, read) refl

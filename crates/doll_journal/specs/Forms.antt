@@ -6,12 +6,13 @@ use Rattle.serde_json.specs.Find.{as_i64, get}
 use Rattle.doll_schema.specs.declared.value.Value.{Value}
 use Rattle.doll_schema.specs.declared.value.Value.TheVariants as values
 use Rattle.doll_schema.specs.Json.{has_only, object_at, text_at, whole_at}
+use Rattle.doll_journal.specs.declared.forms.TheConstants.{LONGEST_TEXT, MOST_VALUES}
 use Rattle.doll_journal.specs.declared.change.Change.{Change}
 use Rattle.doll_journal.specs.declared.change.Change.TheVariants as changes
 
 -- a text that isn't too long for a change
 abbrev pub short_text : List ℕ → Option (List ℕ)
-short_text text = if nat_le (length text) 1048576 then Some text else None
+short_text text = if nat_le (length text) LONGEST_TEXT then Some text else None
 
 -- a value that an attribute may get: null, a truth value, a whole number of 64 bits, or a short text
 abbrev pub value_in : Data → Option Value
@@ -35,9 +36,9 @@ abbrev pub pairs_in : Members → Option (List (List ℕ × Value))
 pairs_in no_members = Some []
 pairs_in (member name d ms) = with_first (pair_in name d) (pairs_in ms)
 
--- at most 64 names with values
+-- names with values, of which there are not too many
 abbrev pub given_in : Members → Option (List (List ℕ × Value))
-given_in ms = if nat_le (members_len ms) 64 then pairs_in ms else None
+given_in ms = if nat_le (members_len ms) MOST_VALUES then pairs_in ms else None
 
 -- what stands under `values`
 abbrev pub given_at : Data → Option (List (List ℕ × Value))

@@ -4,6 +4,7 @@ use Rattle.std.specs.List.{flat_map}
 use Rattle.std.specs.Int.{w32, w64, to_be_bytes, cast_unsigned}
 use Rattle.doll_schema.specs.declared.value.Value.{Value}
 use Rattle.doll_schema.specs.declared.value.Value.TheVariants.{Nil, Bool, Int, Text}
+use Rattle.doll_journal.specs.declared.tags.TheConstants.{NIL_TAG, FALSE_TAG, TRUE_TAG, NUMBER_TAG, TEXT_TAG, CREATE_TAG, UPDATE_TAG, DESTROY_TAG, TOUCH_TAG}
 use Rattle.doll_journal.specs.declared.change.Change.{Change}
 use Rattle.doll_journal.specs.declared.change.Change.TheVariants.{Create, Update, Destroy, Touch}
 use Rattle.doll_journal.specs.declared.change.Commit.{Commit}
@@ -14,11 +15,11 @@ text_bytes text = to_be_bytes w32 (length text) ++ text
 
 -- a value behind its tag; a whole number in two's complement
 abbrev pub value_bytes : Value → List ℕ
-value_bytes Nil = 0 ∷ []
-value_bytes (Bool false) = 1 ∷ []
-value_bytes (Bool true) = 2 ∷ []
-value_bytes (Int z) = 3 ∷ to_be_bytes w64 (cast_unsigned w64 z)
-value_bytes (Text text) = 4 ∷ text_bytes text
+value_bytes Nil = NIL_TAG ∷ []
+value_bytes (Bool false) = FALSE_TAG ∷ []
+value_bytes (Bool true) = TRUE_TAG ∷ []
+value_bytes (Int z) = NUMBER_TAG ∷ to_be_bytes w64 (cast_unsigned w64 z)
+value_bytes (Text text) = TEXT_TAG ∷ text_bytes text
 
 -- a name and its value
 abbrev pub pair_bytes : List ℕ × Value → List ℕ
@@ -30,10 +31,10 @@ given_bytes given = to_be_bytes w32 (length given) ++ flat_map pair_bytes given
 
 -- a change behind its tag
 abbrev pub change_bytes : Change → List ℕ
-change_bytes (Create model given) = 1 ∷ (text_bytes model ++ given_bytes given)
-change_bytes (Update model id given) = 2 ∷ (text_bytes model ++ (to_be_bytes w32 id ++ given_bytes given))
-change_bytes (Destroy model id) = 3 ∷ (text_bytes model ++ to_be_bytes w32 id)
-change_bytes (Touch model id) = 4 ∷ (text_bytes model ++ to_be_bytes w32 id)
+change_bytes (Create model given) = CREATE_TAG ∷ (text_bytes model ++ given_bytes given)
+change_bytes (Update model id given) = UPDATE_TAG ∷ (text_bytes model ++ (to_be_bytes w32 id ++ given_bytes given))
+change_bytes (Destroy model id) = DESTROY_TAG ∷ (text_bytes model ++ to_be_bytes w32 id)
+change_bytes (Touch model id) = TOUCH_TAG ∷ (text_bytes model ++ to_be_bytes w32 id)
 
 -- changes behind their count
 abbrev pub changes_bytes : List Change → List ℕ

@@ -5,6 +5,7 @@ use Rattle.std.specs.List.{AllByRecursion}
 use Rattle.std.specs.Str.{IsUtf8}
 use Rattle.doll_schema.specs.declared.value.Value.{Value}
 use Rattle.doll_schema.specs.declared.value.Value.TheVariants.{Nil, Bool, Int, Text}
+use Rattle.doll_journal.specs.declared.lengths.TheConstants.{MOST_BYTES}
 use Rattle.doll_journal.specs.declared.change.Change.{Change}
 use Rattle.doll_journal.specs.declared.change.Change.TheVariants.{Create, Update, Destroy, Touch}
 use Rattle.doll_journal.specs.declared.change.Commit.{Commit}
@@ -28,9 +29,9 @@ FitsChange (Update model id given) = IsUtf8 model × (id < 2 ^ 32) × AllByRecur
 FitsChange (Destroy model id) = IsUtf8 model × (id < 2 ^ 32)
 FitsChange (Touch model id) = IsUtf8 model × (id < 2 ^ 32)
 
--- changes that a commit may have, whoever makes it: its bytes are 2^31 at most, of which 20 stand before the changes
+-- changes that a commit may have, whoever makes it: its bytes are not too many, of which 20 stand before the changes
 abbrev pub AreStorable : List Change → Type 0
-AreStorable changes = AllByRecursion FitsChange changes × (20 + length (changes_bytes changes) ≤ 2 ^ 31)
+AreStorable changes = AllByRecursion FitsChange changes × (20 + length (changes_bytes changes) ≤ MOST_BYTES)
 
 -- a commit that has a spelling (this project's own)
 abbrev pub IsStorable : Commit → Type 0

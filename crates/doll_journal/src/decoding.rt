@@ -14,6 +14,10 @@ use crate::change::{Change, Changes, Commit, Given};
 use crate::fault::JournalFault;
 use crate::lengths::MOST_BYTES;
 use crate::storable::is_text;
+use crate::tags::{
+    CREATE_TAG, DESTROY_TAG, FALSE_TAG, NIL_TAG, NUMBER_TAG, TEXT_TAG, TOUCH_TAG, TRUE_TAG,
+    UPDATE_TAG,
+};
 use doll_schema::Value;
 use doll_text::{Items, Name, Text};
 use std::alloc::Global;
@@ -152,14 +156,14 @@ fn tagged_value(
         (field_behind (value_cases total) at tag bytes.now) result }
 {
     match tag {
-        0 => Ok((Value::Nil, bytes)),
-        1 => Ok((Value::Bool(false), bytes)),
-        2 => Ok((Value::Bool(true), bytes)),
-        3 => {
+        NIL_TAG => Ok((Value::Nil, bytes)),
+        FALSE_TAG => Ok((Value::Bool(false), bytes)),
+        TRUE_TAG => Ok((Value::Bool(true), bytes)),
+        NUMBER_TAG => {
             let (number, rest) = u64_field(total, bytes)?;
             Ok((Value::Int(number.cast_signed()), rest))
         }
-        4 => {
+        TEXT_TAG => {
             let (text, rest) = text_field(total, bytes)?;
             Ok((Value::Text(Text::from_bytes(alloc, text)?), rest))
         }
@@ -255,13 +259,13 @@ fn tagged_change(
         (field_behind (change_cases total) at tag bytes.now) result }
 {
     match tag {
-        1 => create_field(alloc, total, bytes),
-        2 => update_field(alloc, total, bytes),
-        3 => {
+        CREATE_TAG => create_field(alloc, total, bytes),
+        UPDATE_TAG => update_field(alloc, total, bytes),
+        DESTROY_TAG => {
             let ((model, id), rest) = model_id_field(alloc, total, bytes)?;
             Ok((Change::Destroy { model, id }, rest))
         }
-        4 => {
+        TOUCH_TAG => {
             let ((model, id), rest) = model_id_field(alloc, total, bytes)?;
             Ok((Change::Touch { model, id }, rest))
         }

@@ -5,6 +5,10 @@ ghost use Rattle.std.specs.Int.{w32, to_be_bytes};
 ghost use Rattle.doll_journal.specs.Spelling.{text_bytes, value_bytes, pair_bytes, given_bytes, change_bytes, changes_bytes, spelling};
 
 use crate::change::{Change, Commit};
+use crate::tags::{
+    CREATE_TAG, DESTROY_TAG, FALSE_TAG, NIL_TAG, NUMBER_TAG, TEXT_TAG, TOUCH_TAG, TRUE_TAG,
+    UPDATE_TAG,
+};
 use doll_schema::Value;
 use doll_text::{Memory, Name};
 use std::alloc::Global;
@@ -40,18 +44,18 @@ fn put_change(out: &mut Vec<u8>, change: &Change) -> Result<(), Memory>
 {
     match change {
         Change::Create { model, values } => {
-            out.push(1)?;
+            out.push(CREATE_TAG)?;
             put_text(out, model.as_bytes())?;
             put_given(out, values.as_slice())
         }
         Change::Update { model, id, values } => {
-            out.push(2)?;
+            out.push(UPDATE_TAG)?;
             put_text(out, model.as_bytes())?;
             out.extend_from_slice(&id.to_be_bytes())?;
             put_given(out, values.as_slice())
         }
-        Change::Destroy { model, id } => put_model_id(out, 3, model, *id),
-        Change::Touch { model, id } => put_model_id(out, 4, model, *id),
+        Change::Destroy { model, id } => put_model_id(out, DESTROY_TAG, model, *id),
+        Change::Touch { model, id } => put_model_id(out, TOUCH_TAG, model, *id),
     }
 }
 
@@ -91,15 +95,15 @@ fn put_value(out: &mut Vec<u8>, value: &Value) -> Result<(), Memory>
     ensures { OnOk result (out.new.items ≡ out.old.items ++ value_bytes value.now) }
 {
     match value {
-        Value::Nil => out.push(0)?,
-        Value::Bool(false) => out.push(1)?,
-        Value::Bool(true) => out.push(2)?,
+        Value::Nil => out.push(NIL_TAG)?,
+        Value::Bool(false) => out.push(FALSE_TAG)?,
+        Value::Bool(true) => out.push(TRUE_TAG)?,
         Value::Int(number) => {
-            out.push(3)?;
+            out.push(NUMBER_TAG)?;
             out.extend_from_slice(&number.to_be_bytes())?;
         }
         Value::Text(text) => {
-            out.push(4)?;
+            out.push(TEXT_TAG)?;
             put_text(out, text.as_bytes())?;
         }
     }

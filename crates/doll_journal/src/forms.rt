@@ -159,14 +159,17 @@ fn model_at(alloc: Global, json: &serde_json::Value, key: &str) -> Result<Option
 }
 
 /// The longest text of a change, in bytes.
-const LONGEST: usize = 1_048_576;
+pub const LONGEST_TEXT: usize = 1_048_576;
+
+/// How many values a change may give.
+pub const MOST_VALUES: usize = 64;
 
 /// The bytes of a text that isn't too long for a change.
 fn short_text(alloc: Global, text: &str) -> Result<Option<Vec<u8>>, Memory>
     ensures exact { IfOk result (λ o. option_map (λ v. v.items) o ≡ short_text text.now) }
     ensures fits { IfOk result (λ o. IfSome o (λ v. IsUtf8 v.items)) }
 {
-    if text.len() > LONGEST {
+    if text.len() > LONGEST_TEXT {
         return Ok(None);
     }
     Ok(Some(Vec::from_slice(alloc, text.as_bytes())?))
@@ -190,7 +193,7 @@ fn given_in(
     ensures exact { IfOk result (λ o. o ≡ given_in (members_view members.now.entries)) }
     ensures fits { IfOk result (λ o. IfSome o (AllByRecursion FitsPair)) }
 {
-    if members.len() > 64 {
+    if members.len() > MOST_VALUES {
         return Ok(None);
     }
     pairs_in(alloc, members)

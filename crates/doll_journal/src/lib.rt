@@ -8,6 +8,7 @@ pub mod fault;
 pub mod forms;
 pub mod lengths;
 mod storable;
+pub mod tags;
 
 pub use change::{Change, Changes, Commit, Given};
 pub use decoding::{decode, one_spelling};
