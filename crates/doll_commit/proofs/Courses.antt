@@ -14,6 +14,7 @@ use Rattle.doll_journal.specs.declared.change.Change.{Change}
 use Rattle.doll_journal.specs.declared.change.Change.TheVariants as change
 use Rattle.doll_table.specs.Tables.{Extent, TableMap, row_of, next_of, put_row, put_next}
 use Rattle.doll_table.proofs.Growing.{row_of_put, row_of_next, row_of_without}
+use Rattle.doll_commit.specs.declared.change.TheConstants.{NO_ID}
 use Rattle.doll_commit.specs.declared.fault.Why.{Why}
 use Rattle.doll_commit.specs.declared.fault.Why.TheVariants as why
 use Rattle.doll_commit.specs.Refs.{Ref, is_ref, has, with_refs}
@@ -67,7 +68,7 @@ without_other (gone ∷ removed) table r h =
     ∙ (ap (λ b. cond b None (row_of (without_rows table removed) r.0 r.1)) (not_first (is_ref r gone) (has removed r) h) ∙ without_other removed table r (not_second (is_ref r gone) (has removed r) h))
 
 create_leaves : (table : TableMap) (schema : Schema) (given : Given) (m : ℕ) → IfMade table (create table schema given m)
-create_leaves table schema given m = if_made table (eqb (next_of table m) 4294967295) why.IdsEnded (created_row table schema given m >>= at_row) (then_made table (created_row table schema given m) at_row (λ row. made_of table (new row) (left row)))
+create_leaves table schema given m = if_made table (eqb (next_of table m) NO_ID) why.IdsEnded (created_row table schema given m >>= at_row) (then_made table (created_row table schema given m) at_row (λ row. made_of table (new row) (left row)))
   where
     new : Row → Made
     new row = record { table = put_row (put_next table m (next_of table m + 1)) m (next_of table m) row; changed = (m, next_of table m) ∷ []; created = Some (next_of table m) }

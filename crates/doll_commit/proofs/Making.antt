@@ -13,6 +13,7 @@ use Rattle.doll_table.specs.Tables.{TableMap, row_of, next_of, put_row, put_next
 use Rattle.doll_table.specs.Fits.{Fits, RowFits}
 use Rattle.doll_table.proofs.Beyond.{row_beyond}
 use Rattle.doll_table.proofs.Growing.{put_fits}
+use Rattle.doll_commit.specs.declared.change.TheConstants.{NO_ID}
 use Rattle.doll_commit.specs.declared.fault.Why.{Why}
 use Rattle.doll_commit.specs.declared.fault.Why.TheVariants as why
 use Rattle.doll_commit.specs.declared.fault.ChangeFault.{ChangeFault}
@@ -61,19 +62,19 @@ one_noted schema before after table created one is touched ids = λ i. record { 
 cond_at : {A : Type 0} (b : Bool) (x y : A) → b ≡ false → cond b x y ≡ y
 cond_at b x y e = ap (λ c. cond c x y) e
 
-created_is : (table : TableMap) (schema : Schema) (given : Given) (m : ℕ) (row : Row) → eqb (next_of table m) 4294967295 ≡ false → created_row table schema given m ≡ Ok row
+created_is : (table : TableMap) (schema : Schema) (given : Given) (m : ℕ) (row : Row) → eqb (next_of table m) NO_ID ≡ false → created_row table schema given m ≡ Ok row
     → create table schema given m ≡ Ok (record { table = put_row (put_next table m (next_of table m + 1)) m (next_of table m) row; changed = (m, next_of table m) ∷ []; created = Some (next_of table m) })
 created_is table schema given m row more is =
-    cond_at (eqb (next_of table m) 4294967295) (Err why.IdsEnded) (created_row table schema given m >>= made_of) more ∙ ap (λ r. r >>= made_of) is
+    cond_at (eqb (next_of table m) NO_ID) (Err why.IdsEnded) (created_row table schema given m >>= made_of) more ∙ ap (λ r. r >>= made_of) is
   where
     made_of : Row → Result Made Why
     made_of x = Ok (record { table = put_row (put_next table m (next_of table m + 1)) m (next_of table m) x; changed = (m, next_of table m) ∷ []; created = Some (next_of table m) })
 
-pub created_went : (schema : Schema) (before after : Course) (given : Given) (m id : ℕ) (row : Row) (t1 t2 t3 : TableMap) (r1 : List Ref) → id ≡ next_of before.table m → (id ≡ 4294967295 → ⊥) → created_row before.table schema given m ≡ Ok row → t1 ≡ before.table → t2 ≡ put_next t1 m (id + 1) → t3 ≡ put_row t2 m id row → after.table ≡ t3
+pub created_went : (schema : Schema) (before after : Course) (given : Given) (m id : ℕ) (row : Row) (t1 t2 t3 : TableMap) (r1 : List Ref) → id ≡ next_of before.table m → (id ≡ NO_ID → ⊥) → created_row before.table schema given m ≡ Ok row → t1 ≡ before.table → t2 ≡ put_next t1 m (id + 1) → t3 ≡ put_row t2 m id row → after.table ≡ t3
     → r1 ≡ with_refs (with_ref before.touched (m, id)) (touch_parents before.table schema (m, id)) → after.touched ≡ with_refs r1 (touch_parents t3 schema (m, id)) → after.ids ≡ before.ids ++ id ∷ [] → next_course schema before (create before.table schema given m) ≡ Ok after
 created_went schema before after given m id row t1 t2 t3 r1 next more is e1 e2 e3 e4 n1 n2 ids =
     went schema before after (create before.table schema given m) (record { table = table; changed = (m, next_of before.table m) ∷ []; created = Some (next_of before.table m) })
-    (created_is before.table schema given m row (ne_eqb (next_of before.table m) 4294967295 (λ e. more (next ∙ e))) is)
+    (created_is before.table schema given m row (ne_eqb (next_of before.table m) NO_ID (λ e. more (next ∙ e))) is)
     (one_noted schema before after table (Some (next_of before.table m)) (m, next_of before.table m) (e4 ∙ last) touched (ids ∙ ap (λ i. before.ids ++ i ∷ []) next))
   where
     table : TableMap

@@ -5,6 +5,7 @@ use Rattle.doll_text.specs.Steps.{◌>>=◌}
 use Rattle.doll_schema.specs.declared.model.Schema.{Schema}
 use Rattle.doll_journal.specs.declared.change.Commit.{Commit}
 use Rattle.doll_table.specs.Tables.{TableMap}
+use Rattle.doll_commit.specs.declared.apply.TheConstants.{MOST_CHANGES}
 use Rattle.doll_commit.specs.declared.fault.Why.TheVariants as why
 use Rattle.doll_commit.specs.declared.fault.CommitFault.{CommitFault}
 use Rattle.doll_commit.specs.declared.fault.CommitFault.TheVariants as fault
@@ -71,12 +72,12 @@ pub record IsMade (table : TableMap) (schema : Schema) (commit : Commit) (applie
   pub applied_is : applied ≡ record { table = stamped commit.moment course.table (touched_set schema course); ids = course.ids }
 
 made_by : (table : TableMap) (schema : Schema) (commit : Commit) (applied : Applied) → commit_of table schema commit ≡ Ok applied → (course : Course) × IsMade table schema commit applied course
-made_by table schema commit applied is = by_test (ltb 1000 (length commit.changes)) (all_made schema 0 (record { table = table; touched = []; ids = [] }) commit.changes) refl is
+made_by table schema commit applied is = by_test (ltb MOST_CHANGES (length commit.changes)) (all_made schema 0 (record { table = table; touched = []; ids = [] }) commit.changes) refl is
   where
     last : Course → Result Applied CommitFault
     last course = Ok (record { table = stamped commit.moment course.table (touched_set schema course); ids = course.ids })
 
-    by_test : (b : Bool) (o : Result Course CommitFault) → all_made schema 0 (record { table = table; touched = []; ids = [] }) commit.changes ≡ o → cond b (Err (fault.Refused 1000 why.TooManyChanges)) (o >>= last) ≡ Ok applied → (course : Course) × IsMade table schema commit applied course
+    by_test : (b : Bool) (o : Result Course CommitFault) → all_made schema 0 (record { table = table; touched = []; ids = [] }) commit.changes ≡ o → cond b (Err (fault.Refused MOST_CHANGES why.TooManyChanges)) (o >>= last) ≡ Ok applied → (course : Course) × IsMade table schema commit applied course
     by_test true o at e = absurd (cc e)
     by_test false (Err w) at e = absurd (cc e)
     by_test false (Ok course) at e = (course, record { changes = at; applied_is = cc })

@@ -9,6 +9,7 @@ use Rattle.doll_schema.specs.Lookups.{model_named}
 use Rattle.doll_journal.specs.declared.change.Change.{Change}
 use Rattle.doll_journal.specs.declared.change.Change.TheVariants as change
 use Rattle.doll_table.specs.Tables.{TableMap, row_of, next_of, put_row, put_next}
+use Rattle.doll_commit.specs.declared.change.TheConstants.{NO_ID}
 use Rattle.doll_commit.specs.declared.fault.Why.{Why}
 use Rattle.doll_commit.specs.declared.fault.Why.TheVariants as why
 use Rattle.doll_commit.specs.Refs.{Ref}
@@ -50,11 +51,11 @@ created_row table schema given m = ok_or (slice_get schema.models m) why.Unknown
 abbrev pub updated_row : TableMap → Schema → Given → Ref → Result Row Why
 updated_row table schema given ref = living_row table ref >>= λ old. filled_at table schema ref.0 given old
 
--- a creation takes the next id, of which 4,294,967,295 is never given
+-- a creation takes the next id, of which the last is never given
 abbrev pub create : TableMap → Schema → Given → ℕ → Result Made Why
 create table schema given m =
     let id = next_of table m in
-    if id == 4294967295 then Err why.IdsEnded
+    if id == NO_ID then Err why.IdsEnded
     else created_row table schema given m >>= λ row.
     Ok (record { table = put_row (put_next table m (id + 1)) m id row; changed = (m, id) ∷ []; created = Some id })
 

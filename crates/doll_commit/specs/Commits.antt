@@ -16,6 +16,7 @@ use Rattle.doll_commit.specs.declared.fault.Why.TheVariants as why
 use Rattle.doll_commit.specs.declared.fault.CommitFault.{CommitFault}
 use Rattle.doll_commit.specs.declared.fault.CommitFault.TheVariants as fault
 use Rattle.doll_commit.specs.declared.apply.Applied.{Applied}
+use Rattle.doll_commit.specs.declared.apply.TheConstants.{MOST_CHANGES}
 use Rattle.doll_commit.specs.Refs.{Ref, with_refs, closure}
 use Rattle.doll_commit.specs.Changes.{Made, made}
 
@@ -80,5 +81,5 @@ applied_of schema moment course = record { table = stamped moment course.table (
 -- a commit over a table, or its first refused change
 abbrev pub commit_of : TableMap → Schema → Commit → Result Applied CommitFault
 commit_of table schema commit =
-    if nat_lt 1000 (length commit.changes) then Err (fault.Refused 1000 why.TooManyChanges)
+    if nat_lt MOST_CHANGES (length commit.changes) then Err (fault.Refused MOST_CHANGES why.TooManyChanges)
     else all_made schema 0 (start table) commit.changes >>= λ course. Ok (applied_of schema commit.moment course)

@@ -20,7 +20,7 @@ use doll_text::Ids;
 use std::alloc::Global;
 
 /// How many changes a commit may have.
-const MOST_CHANGES: usize = 1000;
+pub const MOST_CHANGES: u32 = 1000;
 
 /// A table after a commit.
 #[derive(Drop)]
@@ -62,9 +62,9 @@ pub fn apply_to(
     ensures moments { IfOk result
         (λ applied. CarriesMoment schema.now table applied.table commit.now.moment) }
 {
-    if commit.changes.len() > MOST_CHANGES {
+    if commit.changes.len() > MOST_CHANGES as usize {
         return Err(CommitFault::Refused {
-            index: 1000,
+            index: MOST_CHANGES,
             why: Why::TooManyChanges,
         });
     }
@@ -85,7 +85,7 @@ fn made_course(
     changes: &[Change],
 ) -> Result<Course, CommitFault>
     requires fits { Fits schema.now table }
-    requires few { length changes.now ≤ 1000 }
+    requires few { length changes.now ≤ MOST_CHANGES }
     ensures exact { GivesBy seen CommitFault.Memory
         (all_made schema.now 0 (start table) changes.now) result }
     ensures fits { IfOk result (λ course. Fits schema.now course.table) }
@@ -107,7 +107,7 @@ fn make_all(
     changes: &[Change],
 ) -> Result<(), CommitFault>
     requires fits { Fits schema.now course.old.table }
-    requires few { length changes.now ≤ 1000 }
+    requires few { length changes.now ≤ MOST_CHANGES }
     ensures exact { Reaches (all_made schema.now 0 (seen course.old) changes.now) (seen course.new)
         result }
     ensures fits { OnOk result (Fits schema.now course.new.table) }

@@ -92,6 +92,9 @@ fn updated_row(
     filled(alloc, table, model, given, old)
 }
 
+/// The id that no record gets.
+pub const NO_ID: u32 = u32::MAX;
+
 fn create(
     alloc: Global,
     schema: &Schema,
@@ -106,7 +109,7 @@ fn create(
     ensures fits { OnOk result (Fits schema.now course.new.table) }
 {
     let id = course.table.next(model);
-    if id == u32::MAX {
+    if id == NO_ID {
         return Err(ChangeFault::Refused(Why::IdsEnded));
     }
     let row = created_row(alloc, &course.table, schema, given, model)?;
