@@ -4,7 +4,7 @@
 
 ghost use Rattle.std.specs.Prelude.{◌≡◌, ◌-◌, ◌/◌, ◌^◌, ◌<◌, ◌≤◌, length, take, min, IfOk, OnErr, None};
 ghost use Rattle.std.specs.Duration.{as_nanos};
-ghost use Rattle.std.specs.Io.KnownBytes.{Appends, ReadConsumes};
+ghost use Rattle.std.specs.Io.KnownBytes.{Appends, Keeps, ReadConsumes};
 ghost use Rattle.doll_base.specs.Faults.{Rose, KeepsCount};
 ghost use Rattle.doll_base.specs.Systems.{AppendsPart};
 
@@ -135,7 +135,7 @@ impl<W: Write> Sink for StdSink<W> {
     }
 }
 
-/// Writes once and flushes, and writes again where a signal interrupted that.
+/// Writes once and flushes, each again where a signal interrupted it.
 fn write_again<W: Write>(writer: &mut W, from: &[u8]) -> io::Result<usize>
     ensures fits { IfOk result (λ n. n ≤ length from.now) }
     ensures writer { IfOk result (λ n.
@@ -146,9 +146,26 @@ fn write_again<W: Write>(writer: &mut W, from: &[u8]) -> io::Result<usize>
     for _ in 0..u64::MAX {
         match writer.write(from) {
             Ok(count) => {
-                writer.flush()?;
+                flush_again(writer)?;
                 return Ok(count);
             }
+            Err(error) => {
+                if error.kind() != ErrorKind::Interrupted {
+                    return Err(error);
+                }
+            }
+        }
+    }
+    Err(io::Error::from(ErrorKind::Interrupted))
+}
+
+/// Flushes once, and again where a signal interrupted that.
+fn flush_again<W: Write>(writer: &mut W) -> io::Result<()>
+    ensures { Keeps (W.contents writer.old) (W.contents writer.new) }
+{
+    for _ in 0..u64::MAX {
+        match writer.flush() {
+            Ok(()) => return Ok(()),
             Err(error) => {
                 if error.kind() != ErrorKind::Interrupted {
                     return Err(error);
