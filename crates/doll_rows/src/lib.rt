@@ -1,0 +1,16 @@
+//! What no clause says of the crates below: that their calls find memory, and that the definitions mean what a reader of
+//! the formats would expect, on pages, faults and histories worked by hand.
+#![tactic(auto)]
+
+#[cfg(test)]
+mod answer;
+#[cfg(test)]
+mod faults;
+#[cfg(test)]
+mod histories;
+#[cfg(test)]
+mod limits;
+#[cfg(test)]
+mod outside;
+#[cfg(test)]
+mod pages;
