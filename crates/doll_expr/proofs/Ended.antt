@@ -13,13 +13,9 @@ use Rattle.doll_expr.specs.declared.token.TokenKind.TheVariants as kind
 use Rattle.doll_text.specs.Bytes.{is_lower, is_space, is_word_byte}
 use Rattle.doll_text.specs.Names.{word_of, is_name}
 use Rattle.doll_expr.specs.Tokens.{Front, decimal, question, name_from, closing, quoted, mark_of, number_from, number_at, plain_word, word_from, word_at, name_at, text_of, text_from, text_at, mark_from, front, is_dot, is_last, token, followed, tokens_from, beyond, at_most, tokens_of}
+pub use Rattle.doll_expr.specs.Tokens.{Ended}
 use Rattle.doll_expr.specs.Reading.{first_kind, place}
 use Rattle.doll_expr.proofs.Shapes.{Plain}
-
-abbrev pub Ended : List Token → Type 0
-Ended [] = ⊥
-Ended (t ∷ []) = is_last t.kind ≡ true
-Ended (t ∷ u ∷ ts) = (is_last t.kind ≡ false) × Ended (u ∷ ts)
 
 pub ended_rest : (ts : List Token) → Ended ts → is_last (first_kind ts) ≡ false → Ended (drop 1 ts)
 ended_rest [] e h = absurd e

@@ -236,10 +236,10 @@ first_fault ts f few ended h =
           ]
     ]
 
-pub text_fault : (text : List ℕ) (f : ExprFault) → expr_of text ≡ Err f → IsFirstFault (tokens_of text) f
-unfolding expr_of
-text_fault text f h = first_fault (tokens_of text) f (few_tokens_of text) (text_ended text) h
+pub tokens_fault : (ts : List Token) (r : Result Expr ExprFault) → Gives Memory (whole_of ts) r → length ts ≤ 201 → Ended ts → Faults ts r
+tokens_fault ts (Ok a) given few ended = tt
+tokens_fault ts (Err f) given few ended = λ other. first_fault ts f few ended (given other)
 
 pub bytes_fault : (text : List ℕ) (r : Result Expr ExprFault) → Gives Memory (expr_of text) r → Faults (tokens_of text) r
-bytes_fault text (Ok a) given = tt
-bytes_fault text (Err f) given = λ other. text_fault text f (given other)
+unfolding expr_of
+bytes_fault text r given = tokens_fault (tokens_of text) r given (few_tokens_of text) (text_ended text)

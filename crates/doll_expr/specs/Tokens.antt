@@ -1,5 +1,5 @@
 -- The tokens of a text. All of it is this project's own.
-use Rattle.std.specs.Prelude.{ℕ, zero, suc, ◌+◌, ◌-◌, ◌*◌, ◌^◌, pos, Bool, true, false, ◌&&◌, ◌||◌, ◌==◌, nat_lt, List, [], ◌∷◌, ◌++◌, length, take, drop, slice_index, Option, Some, None, Result, Ok, Err, if◌then◌else◌, codes}
+use Rattle.std.specs.Prelude.{◌≡◌, ℕ, zero, suc, ◌+◌, ◌-◌, ◌*◌, ◌^◌, pos, Bool, true, false, ◌&&◌, ◌||◌, ◌==◌, nat_lt, List, [], ◌∷◌, ◌++◌, length, take, drop, slice_index, Option, Some, None, Result, Ok, Err, if◌then◌else◌, codes}
 use Rattle.std.specs.Char.{is_ascii_digit}
 use Rattle.std.specs.List.{fold, take_while}
 use Rattle.std.specs.Option.{option_map, option_or}
@@ -194,6 +194,12 @@ abbrev pub is_last : TokenKind → Bool
 is_last kind.End = true
 is_last (kind.Fault fault) = true
 is_last _ = false
+
+-- tokens of which the last one, and no other, is the end or a fault, as it is with those of a text
+abbrev pub Ended : List Token → Type 0
+Ended [] = ⊥
+Ended (t ∷ []) = is_last t.kind ≡ true
+Ended (t ∷ u ∷ ts) = (is_last t.kind ≡ false) × Ended (u ∷ ts)
 
 -- What stands where no token has room: the end and a fault stay, a token is one too many.
 abbrev pub beyond : Token → Token

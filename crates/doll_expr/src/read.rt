@@ -4,11 +4,12 @@ ghost use Rattle.std.specs.Prelude.{◌≡◌, ◌≤◌, ◌==◌, ◌&&◌, tr
 ghost use Rattle.doll_expr.specs.declared.expr.Expr.{Expr};
 ghost use Rattle.doll_expr.specs.declared.token.Token.{Token};
 ghost use Rattle.doll_text.specs.Gives.{Gives, GivesExactly};
+ghost use Rattle.doll_expr.specs.Faults.{Faults};
 ghost use Rattle.doll_expr.specs.Grammar as grammar;
 ghost use Rattle.doll_expr.specs.Grammar.{AreExpr, BeginsExpr, Sentence, ends_expr};
 ghost use Rattle.doll_expr.specs.Reading as spec;
 ghost use Rattle.doll_expr.specs.Reading.{Reads};
-ghost use Rattle.doll_expr.specs.Tokens.{is_mark, is_word};
+ghost use Rattle.doll_expr.specs.Tokens.{Ended, is_mark, is_word};
 
 use crate::expr::{Expr, ExprFault, Op, Query};
 use crate::level::{Level, Sign, operator_of, repeats, tighter};
@@ -35,6 +36,8 @@ pub fn expr_at(alloc: Global, tokens: &[Token]) -> Result<(Expr, &[Token]), Expr
 pub fn whole_expr(alloc: Global, tokens: &[Token]) -> Result<Expr, ExprFault>
     ensures found { IfOk result (λ e. AreExpr tokens.now e) }
     ensures only { (e : Expr) → length tokens.now ≤ 201 → AreExpr tokens.now e → Gives ExprFault.Memory (Ok e) result }
+    // A fault is that of the first token with which no sentence goes on, unless memory ran out.
+    ensures fault { length tokens.now ≤ 201 → Ended tokens.now → Faults tokens.now result }
     ensures exact { Gives ExprFault.Memory (spec.whole_of tokens.now) result }
 {
     read_whole(alloc, tokens)
