@@ -1,10 +1,13 @@
 -- What of expressions the laws of tags rest on: where a sentence ends, which tokens stand in it, and its first fault.
-use Rattle.std.proofs.Common.{◌≡◌, ◌≤◌, ℕ, ◌+◌, ◌*◌, Bool, true, false, cond, List, [], ◌∷◌, ◌++◌, length, drop, None, Ok, Err, refl, sym, ap, subst, ◌∙◌, inl, inr, ◌⊎◌, append_assoc, arith}
+use Rattle.std.proofs.Common.{◌≡◌, ◌≤◌, ℕ, ◌+◌, ◌*◌, Bool, true, false, cond, List, [], ◌∷◌, ◌++◌, length, drop, Some, None, Ok, Err, refl, sym, ap, subst, ◌∙◌, inl, inr, ◌⊎◌, append_assoc, arith}
 use Rattle.std.proofs.lemmas.List.{length-append}
 use Rattle.doll_expr.specs.declared.expr.Expr.{Expr}
 use Rattle.doll_expr.specs.declared.expr.Expr.TheVariants as e
 use Rattle.doll_expr.specs.declared.expr.ExprFault.{ExprFault}
+use Rattle.doll_expr.specs.declared.expr.Op.{Op}
+use Rattle.doll_expr.specs.declared.level.Level.{Level}
 use Rattle.doll_expr.specs.declared.level.Level.TheVariants as level
+use Rattle.doll_expr.specs.declared.level.Sign.{Sign}
 use Rattle.doll_expr.specs.declared.token.Mark.{Mark}
 use Rattle.doll_expr.specs.declared.token.Mark.TheVariants as mark
 use Rattle.doll_text.specs.declared.words.Word.{Word}
@@ -13,7 +16,8 @@ use Rattle.doll_expr.specs.declared.token.Token.{Token}
 use Rattle.doll_expr.specs.declared.token.TokenKind.{TokenKind}
 use Rattle.doll_expr.specs.declared.token.TokenKind.TheVariants as kind
 use Rattle.doll_expr.specs.Tokens.{token, is_dot, is_mark}
-use Rattle.doll_expr.specs.Grammar.{Rule, expr, and, eq, cmp, sum, prod, unary, postfix, atom, Sentence, ends_before, ends_expr, mark_at, word_at, expr_one, expr_or, and_one, and_and, eq_one, eq_equal, eq_not_equal, cmp_one, cmp_less, cmp_less_or_equal, cmp_greater, cmp_greater_or_equal, sum_one, sum_plus, sum_minus, prod_one, prod_times, unary_one, unary_not, unary_minus, postfix_one, postfix_name, postfix_id, postfix_updated_at, postfix_size, postfix_ask, atom_number, atom_text, atom_nil, atom_true, atom_false, atom_name, atom_parentheses}
+use Rattle.doll_expr.specs.Levels.{left_of, operator_of, sign_of, literal, step_of}
+use Rattle.doll_expr.specs.Grammar.{Rule, at_level, expr, unary, postfix, atom, Sentence, ends_before, ends_expr, mark_at, word_at, level_one, level_operator, unary_one, unary_signed, postfix_one, postfix_step, atom_token, atom_parentheses}
 use Rattle.doll_expr.specs.Reading.{first_kind, has_step, stops_at, level_at, enough_fuel, expr_at, whole_of, is_end}
 use Rattle.doll_expr.specs.Faults as faults
 use Rattle.doll_expr.proofs.Rules.{bind_ok, chosen, ok_is}
@@ -183,40 +187,52 @@ own_append : (ts us : List Token) → AreOwn ts → AreOwn us → AreOwn (ts ++ 
 own_append [] us x y = y
 own_append (t ∷ ts) us x y = (x.0, own_append ts us x.1 y)
 
+operator_own : (l : Level) (k : TokenKind) (o : Op) → operator_of l k ≡ Some o → is_own k ≡ true
+operator_own level.Or (kind.Mark mark.Or) o h = refl
+operator_own level.And (kind.Mark mark.And) o h = refl
+operator_own level.Equality (kind.Mark mark.Equal) o h = refl
+operator_own level.Equality (kind.Mark mark.NotEqual) o h = refl
+operator_own level.Order (kind.Mark mark.Less) o h = refl
+operator_own level.Order (kind.Mark mark.LessOrEqual) o h = refl
+operator_own level.Order (kind.Mark mark.Greater) o h = refl
+operator_own level.Order (kind.Mark mark.GreaterOrEqual) o h = refl
+operator_own level.Sum (kind.Mark mark.Plus) o h = refl
+operator_own level.Sum (kind.Mark mark.Minus) o h = refl
+operator_own level.Product (kind.Mark mark.Times) o h = refl
+operator_own level.Unary (kind.Mark m) o h = absurd cc
+operator_own _ _ o h = absurd cc
+
+sign_own : (k : TokenKind) (s : Sign) → sign_of k ≡ Some s → is_own k ≡ true
+sign_own (kind.Mark mark.Not) s h = refl
+sign_own (kind.Mark mark.Minus) s h = refl
+sign_own _ s h = absurd cc
+
+literal_own : (k : TokenKind) (a : Expr) → literal k ≡ Some a → is_own k ≡ true
+literal_own (kind.Number n) a h = refl
+literal_own (kind.Text text) a h = refl
+literal_own (kind.Name name) a h = refl
+literal_own (kind.Word word.Nil) a h = refl
+literal_own (kind.Word word.True) a h = refl
+literal_own (kind.Word word.False) a h = refl
+literal_own _ a h = absurd cc
+
+step_own : (a b : Expr) (k : TokenKind) → step_of a k ≡ Some b → is_own k ≡ true
+step_own a b (kind.Name name) h = refl
+step_own a b (kind.Ask q) h = refl
+step_own a b (kind.Word word.Id) h = refl
+step_own a b (kind.Word word.UpdatedAt) h = refl
+step_own a b (kind.Word word.Size) h = refl
+step_own a b _ h = absurd cc
+
 -- an expression has no other tokens
 pub own : (r : Rule) (ts : List Token) (a : Expr) → Sentence r ts a → AreOwn ts
-own _ _ _ (expr_one ts a s) = own and ts a s
-own _ _ _ (expr_or ts us a b at s t) = own_append ts (mark_at mark.Or at ∷ us) (own expr ts a s) (refl, own and us b t)
-own _ _ _ (and_one ts a s) = own eq ts a s
-own _ _ _ (and_and ts us a b at s t) = own_append ts (mark_at mark.And at ∷ us) (own and ts a s) (refl, own eq us b t)
-own _ _ _ (eq_one ts a s) = own cmp ts a s
-own _ _ _ (eq_equal ts us a b at s t) = own_append ts (mark_at mark.Equal at ∷ us) (own cmp ts a s) (refl, own cmp us b t)
-own _ _ _ (eq_not_equal ts us a b at s t) = own_append ts (mark_at mark.NotEqual at ∷ us) (own cmp ts a s) (refl, own cmp us b t)
-own _ _ _ (cmp_one ts a s) = own sum ts a s
-own _ _ _ (cmp_less ts us a b at s t) = own_append ts (mark_at mark.Less at ∷ us) (own sum ts a s) (refl, own sum us b t)
-own _ _ _ (cmp_less_or_equal ts us a b at s t) = own_append ts (mark_at mark.LessOrEqual at ∷ us) (own sum ts a s) (refl, own sum us b t)
-own _ _ _ (cmp_greater ts us a b at s t) = own_append ts (mark_at mark.Greater at ∷ us) (own sum ts a s) (refl, own sum us b t)
-own _ _ _ (cmp_greater_or_equal ts us a b at s t) = own_append ts (mark_at mark.GreaterOrEqual at ∷ us) (own sum ts a s) (refl, own sum us b t)
-own _ _ _ (sum_one ts a s) = own prod ts a s
-own _ _ _ (sum_plus ts us a b at s t) = own_append ts (mark_at mark.Plus at ∷ us) (own sum ts a s) (refl, own prod us b t)
-own _ _ _ (sum_minus ts us a b at s t) = own_append ts (mark_at mark.Minus at ∷ us) (own sum ts a s) (refl, own prod us b t)
-own _ _ _ (prod_one ts a s) = own unary ts a s
-own _ _ _ (prod_times ts us a b at s t) = own_append ts (mark_at mark.Times at ∷ us) (own prod ts a s) (refl, own unary us b t)
+own _ _ _ (level_one l inner ts a is s) = own (at_level inner) ts a s
+own _ _ _ (level_operator l inner k o ts us a b at is op s t) = own_append ts (token k at ∷ us) (own (at_level (left_of l inner)) ts a s) (operator_own l k o op, own (at_level inner) us b t)
 own _ _ _ (unary_one ts a s) = own postfix ts a s
-own _ _ _ (unary_not ts a at s) = (refl, own unary ts a s)
-own _ _ _ (unary_minus ts a at s) = (refl, own unary ts a s)
+own _ _ _ (unary_signed k s ts a at is t) = (sign_own k s is, own unary ts a t)
 own _ _ _ (postfix_one ts a s) = own atom ts a s
-own _ _ _ (postfix_name ts a name dot at s) = own_append ts (mark_at mark.Dot dot ∷ token (kind.Name name) at ∷ []) (own postfix ts a s) (refl, (refl, tt))
-own _ _ _ (postfix_id ts a dot at s) = own_append ts (mark_at mark.Dot dot ∷ word_at word.Id at ∷ []) (own postfix ts a s) (refl, (refl, tt))
-own _ _ _ (postfix_updated_at ts a dot at s) = own_append ts (mark_at mark.Dot dot ∷ word_at word.UpdatedAt at ∷ []) (own postfix ts a s) (refl, (refl, tt))
-own _ _ _ (postfix_size ts a dot at s) = own_append ts (mark_at mark.Dot dot ∷ word_at word.Size at ∷ []) (own postfix ts a s) (refl, (refl, tt))
-own _ _ _ (postfix_ask ts a q dot at s) = own_append ts (mark_at mark.Dot dot ∷ token (kind.Ask q) at ∷ []) (own postfix ts a s) (refl, (refl, tt))
-own _ _ _ (atom_number n at) = (refl, tt)
-own _ _ _ (atom_text text at) = (refl, tt)
-own _ _ _ (atom_nil at) = (refl, tt)
-own _ _ _ (atom_true at) = (refl, tt)
-own _ _ _ (atom_false at) = (refl, tt)
-own _ _ _ (atom_name name at) = (refl, tt)
+own _ _ _ (postfix_step k ts a b dot at is s) = own_append ts (mark_at mark.Dot dot ∷ token k at ∷ []) (own postfix ts a s) (refl, (step_own a b k is, tt))
+own _ _ _ (atom_token k a at is) = (literal_own k a is, tt)
 own _ _ _ (atom_parentheses ts a opened closed s) = (refl, own_append ts (mark_at mark.Close closed ∷ []) (own expr ts a s) (refl, tt))
 
 own_first : (ts : List Token) → 1 ≤ length ts → AreOwn ts → (t : Token) × (us : List Token) × (ts ≡ t ∷ us) × (is_own t.kind ≡ true) × AreOwn us
@@ -228,8 +244,14 @@ pub expr_first : (ts : List Token) (a : Expr) → Sentence expr ts a → (t : To
 expr_first ts a s = own_first ts (some_tokens expr ts a s) (own expr ts a s)
 
 -- a token that is an expression by itself
+by_itself : (k : TokenKind) (a : Expr) (at : ℕ) → literal k ≡ Some a → Sentence expr (token k at ∷ []) a
+by_itself k a at is =
+    let product = level_one level.Product level.Unary _ a refl (unary_one _ a (postfix_one _ a (atom_token k a at is))) in
+    let order = level_one level.Order level.Sum _ a refl (level_one level.Sum level.Product _ a refl product) in
+    level_one level.Or level.And _ a refl (level_one level.And level.Equality _ a refl (level_one level.Equality level.Order _ a refl order))
+
 pub alone : (at : ℕ) (text : List ℕ) → Sentence expr (token (kind.Text text) at ∷ []) (e.Text text)
-alone at text = expr_one _ _ (and_one _ _ (eq_one _ _ (cmp_one _ _ (sum_one _ _ (prod_one _ _ (unary_one _ _ (postfix_one _ _ (atom_text text at))))))))
+alone at text = by_itself (kind.Text text) (e.Text text) at refl
 
 pub nil : Sentence expr (word_at word.Nil 0 ∷ []) e.Nil
-nil = expr_one _ _ (and_one _ _ (eq_one _ _ (cmp_one _ _ (sum_one _ _ (prod_one _ _ (unary_one _ _ (postfix_one _ _ (atom_nil 0))))))))
+nil = by_itself (kind.Word word.Nil) e.Nil 0 refl

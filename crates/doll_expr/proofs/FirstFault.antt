@@ -14,8 +14,9 @@ use Rattle.doll_expr.specs.declared.token.TokenKind.{TokenKind}
 use Rattle.doll_expr.specs.declared.token.TokenKind.TheVariants as kind
 use Rattle.doll_text.specs.Gives.{Gives}
 use Rattle.doll_expr.specs.Tokens.{is_last, token, tokens_of}
-use Rattle.doll_expr.specs.Grammar.{expr, atom, Sentence, is_each, mark_at, word_at, atom_nil, atom_parentheses}
-use Rattle.doll_expr.specs.Reading.{literal, is_open, is_close, is_end, first_kind, place, fault_at, stops_at, close_at, level_at, atom_at, enough_fuel, expr_at, whole_of, expr_of, ◌>>=◌}
+use Rattle.doll_expr.specs.Grammar.{expr, atom, Sentence, is_each, mark_at, word_at, atom_token, atom_parentheses}
+use Rattle.doll_expr.specs.Reading.{is_open, is_close, is_end, first_kind, place, fault_at, stops_at, close_at, level_at, atom_at, enough_fuel, expr_at, whole_of, expr_of, ◌>>=◌}
+use Rattle.doll_expr.specs.Levels.{literal}
 use Rattle.doll_expr.specs.Faults.{opened_after, fault_behind, IsFirstFault, Faults}
 use Rattle.doll_expr.proofs.Rules.{first_is, open_is, if_some_is, chosen, ok_is}
 use Rattle.doll_expr.proofs.Fuel.{atom_open_stop, atom_close_stop, atom_stop}
@@ -119,7 +120,7 @@ atom_stuck n all opened ts f enough ended h =
                   parts = front;
                   local = λ k us le. atom_stop n k opened (t1 ∷ us) le s.0 t.0 ∙ again_at opened t1 (drop 1 ts) us ∙ ap (λ (vs : List Token). Err (fault_at opened vs)) (sym front) ∙ t.1;
                   fault = λ places is. agrees_at opened places ts f is (err_is (fault_at opened ts) f t.1);
-                  begins = (word_at word.Nil 0 ∷ [], (e.Nil, atom_nil 0));
+                  begins = (word_at word.Nil 0 ∷ [], (e.Nil, atom_token (kind.Word word.Nil) e.Nil 0 refl));
                 }
           ]
     ]

@@ -13,10 +13,11 @@ use Rattle.doll_expr.specs.declared.token.Token.{Token}
 use Rattle.doll_expr.specs.declared.token.TokenKind.{TokenKind}
 use Rattle.doll_expr.specs.declared.token.TokenKind.TheVariants as kind
 use Rattle.doll_expr.specs.Tokens.{is_dot, token, tokens_of}
-use Rattle.doll_expr.specs.Grammar.{is_each, Rule, expr, unary, postfix, atom, Sentence, AreExpr, IsExpr, mark_at, unary_one, postfix_one, atom_parentheses}
-use Rattle.doll_expr.specs.Reading.{tighter, repeats, operator_of, sign_of, signed, literal, step_of, is_open, is_close, is_end, first_kind, place, has_step, fault_at, stops_at, close_at, steps_at, level_at, more_at, unary_at, atom_at, enough_fuel, expr_at, whole_of, expr_of, ◌>>=◌, Read}
+use Rattle.doll_expr.specs.Grammar.{is_each, Rule, at_level, expr, unary, postfix, atom, Sentence, AreExpr, IsExpr, mark_at, level_operator, unary_one, unary_signed, postfix_one, postfix_step, atom_token, atom_parentheses}
+use Rattle.doll_expr.specs.Reading.{is_open, is_close, is_end, first_kind, place, has_step, fault_at, stops_at, close_at, steps_at, level_at, more_at, unary_at, atom_at, enough_fuel, expr_at, whole_of, expr_of, ◌>>=◌, Read}
+use Rattle.doll_expr.specs.Levels.{left_of, tighter, repeats, operator_of, sign_of, signed, literal, step_of}
 use Rattle.doll_expr.proofs.Fuel.{Alike, alike_append, steps_go, steps_end, level_go, level_last, more_go, more_last, more_none, unary_sign, unary_go, atom_literal, atom_open}
-use Rattle.doll_expr.proofs.Rules.{sign_again, rule_of, below, begun, below_is, unary_is, begins, ends, again, joins, first_is, operator_mark, mark_of_sign, sign_mark, sign_joins, dot_is, open_is, close_is, end_is, literal_other, literal_joins, step_other, step_joins, bind_ok, if_some_is, chosen, ok_is}
+use Rattle.doll_expr.proofs.Rules.{unary_is, begins, ends, again, first_is, operator_inner, sign_inner, literal_inner, step_inner, dot_is, open_is, close_is, end_is, bind_ok, if_some_is, chosen, ok_is}
 
 abbrev pub Pair : Type 0
 Pair = Expr × List Token
@@ -54,7 +55,7 @@ step_is a b ts has is =
     let k = first_kind (drop 1 ts) in
     let both = and_parts (is_dot (first_kind ts)) (not (is_each k)) has in
     let front : ts ≡ mark_at mark.Dot (place ts) ∷ drop 1 ts = first_is ts (kind.Mark mark.Dot) (dot_is (first_kind ts) both.0) refl in
-    let second : drop 1 ts ≡ token k (place (drop 1 ts)) ∷ drop 1 (drop 1 ts) = first_is (drop 1 ts) k refl (step_other a b k is) in
+    let second : drop 1 ts ≡ token k (place (drop 1 ts)) ∷ drop 1 (drop 1 ts) = first_is (drop 1 ts) k refl (step_inner a b k is).2 in
     record { kind = k; places = (place ts, place (drop 1 ts)); front = front ∙ ap (λ (us : List Token). mark_at mark.Dot (place ts) ∷ us) second; other = both.1; is = is }
 
 pub steps_found : (n : ℕ) (opened : Option ℕ) (a : Expr) (ts : List Token) (x : Pair) → steps_at n opened a ts ≡ Ok x → Goes (λ k us. steps_at k opened a us) n (Unit {0}) postfix postfix a ts x
@@ -71,7 +72,7 @@ steps_found (suc n) opened a ts x h =
             record {
               used = step ++ more.used;
               parts = st.front ∙ ap (λ (us : List Token). step ++ us) more.parts;
-              sentence = λ vs v. subst (λ (us : List Token). Sentence postfix us x.0) (append_assoc vs step more.used) (more.sentence (vs ++ step) (step_joins a b st.kind vs st.places.0 st.places.1 st.is v));
+              sentence = λ vs v. subst (λ (us : List Token). Sentence postfix us x.0) (append_assoc vs step more.used) (more.sentence (vs ++ step) (postfix_step st.kind vs a b st.places.0 st.places.1 st.is v));
               ended = more.ended;
               local = λ k rest enough alike. steps_go n k opened a b (step ++ (more.used ++ rest)) (Ok (x.0, rest)) enough st.other st.is (λ m le. more.local m rest le alike);
             }
@@ -88,13 +89,13 @@ steps_found (suc n) opened a ts x h =
 
 -- what holds with this much fuel
 pub record AllFound (n : ℕ) : Type 0 where
-  pub level : (opened : Option ℕ) (l : Level) (ts : List Token) (x : Pair) → level_at n opened l ts ≡ Ok x → Found (λ k us. level_at k opened l us) n (Unit {0}) (rule_of l) ts x
+  pub level : (opened : Option ℕ) (l : Level) (ts : List Token) (x : Pair) → level_at n opened l ts ≡ Ok x → Found (λ k us. level_at k opened l us) n (Unit {0}) (at_level l) ts x
   pub more : (opened : Option ℕ) (l inner : Level) (left : Expr) (ts : List Token) (x : Pair) → tighter l ≡ Some inner → more_at n opened l inner left ts ≡ Ok x
-      → Goes (λ k us. more_at k opened l inner left us) n (has_step ts ≡ false) (begun l) (rule_of l) left ts x
+      → Goes (λ k us. more_at k opened l inner left us) n (has_step ts ≡ false) (at_level (left_of l inner)) (at_level l) left ts x
   pub unary : (opened : Option ℕ) (ts : List Token) (x : Pair) → unary_at n opened ts ≡ Ok x → Found (λ k us. unary_at k opened us) n (Unit {0}) unary ts x
   pub atom : (opened : Option ℕ) (ts : List Token) (x : Pair) → atom_at n opened ts ≡ Ok x → Found (λ k us. atom_at k opened us) n ⊥ atom ts x
 
-level_found : (n : ℕ) → AllFound n → (opened : Option ℕ) (l : Level) (ts : List Token) (x : Pair) → level_at (suc n) opened l ts ≡ Ok x → Found (λ k us. level_at k opened l us) (suc n) (Unit {0}) (rule_of l) ts x
+level_found : (n : ℕ) → AllFound n → (opened : Option ℕ) (l : Level) (ts : List Token) (x : Pair) → level_at (suc n) opened l ts ≡ Ok x → Found (λ k us. level_at k opened l us) (suc n) (Unit {0}) (at_level l) ts x
 unfolding level_at
 level_found n all opened l ts x h =
     elim (if_some_is (tighter l) (λ (inner : Level). level_at n opened inner ts >>= λ (y : Pair). more_at n opened l inner y.0 y.1) (unary_at n opened ts) (Ok x) h) [
@@ -102,11 +103,10 @@ level_found n all opened l ts x h =
           let b = bind_ok (level_at n opened s.0 ts) (λ (y : Pair). more_at n opened l s.0 y.0 y.1) x s.2 in
           let first = all.level opened s.0 ts b.0 b.1 in
           let others = all.more opened l s.0 b.0.0 b.0.1 x s.1 b.2 in
-          let operand : Sentence (below l) first.used b.0.0 = subst (λ (r : Rule). Sentence r first.used b.0.0) (below_is l s.0 s.1) first.sentence in
           record {
             used = first.used ++ others.used;
             parts = first.parts ∙ ap (λ (us : List Token). first.used ++ us) others.parts ∙ sym (append_assoc first.used others.used x.1);
-            sentence = others.sentence first.used (begins l first.used b.0.0 operand);
+            sentence = others.sentence first.used (begins l s.0 first.used b.0.0 s.1 first.sentence);
             ended = λ _. others.ended (first.ended tt);
             local = λ k rest enough alike. ap (level_at k opened l) (append_assoc first.used others.used rest) ∙ level_go n k opened l s.0 (first.used ++ (others.used ++ rest)) (others.used ++ rest) b.0.0 (Ok (x.0, rest)) enough s.1
                 (λ m le. first.local m (others.used ++ rest) le (alike_here b.0.1 others.used x.1 rest others.parts alike)) (λ m le. others.local m rest le alike);
@@ -116,51 +116,50 @@ level_found n all opened l ts x h =
           record {
             used = u.used;
             parts = u.parts;
-            sentence = subst (λ (r : Rule). Sentence r u.used x.0) (sym (unary_is l s.0)) u.sentence;
+            sentence = subst (λ (m : Level). Sentence (at_level m) u.used x.0) (sym (unary_is l s.0)) u.sentence;
             ended = u.ended;
             local = λ k rest enough alike. level_last n k opened l (u.used ++ rest) (Ok (x.0, rest)) enough s.0 (λ m le. u.local m rest le alike);
           }
     ]
 
 more_found : (n : ℕ) → AllFound n → (opened : Option ℕ) (l inner : Level) (left : Expr) (ts : List Token) (x : Pair) → tighter l ≡ Some inner → more_at (suc n) opened l inner left ts ≡ Ok x
-    → Goes (λ k us. more_at k opened l inner left us) (suc n) (has_step ts ≡ false) (begun l) (rule_of l) left ts x
+    → Goes (λ k us. more_at k opened l inner left us) (suc n) (has_step ts ≡ false) (at_level (left_of l inner)) (at_level l) left ts x
 unfolding more_at
 more_found n all opened l inner left ts x operands h =
     elim (if_some_is (operator_of l (first_kind ts)) (λ (o : Op). level_at n opened inner (drop 1 ts) >>= λ (y : Pair). cond (repeats l) (more_at n opened l inner (e.Binary o left y.0) y.1) (Ok (e.Binary o left y.0, y.1))) (Ok (left, ts)) (Ok x) h) [
       | inl s ↦
           let o = s.0 in
           let b = bind_ok (level_at n opened inner (drop 1 ts)) (λ (y : Pair). cond (repeats l) (more_at n opened l inner (e.Binary o left y.0) y.1) (Ok (e.Binary o left y.0, y.1))) x s.2 in
-          let m = operator_mark l (first_kind ts) o s.1 in
-          let front : ts ≡ mark_at m.0 (place ts) ∷ drop 1 ts = first_is ts (kind.Mark m.0) m.1 refl in
+          let k = first_kind ts in
+          let front : ts ≡ token k (place ts) ∷ drop 1 ts = first_is ts k refl (operator_inner l k o s.1).2 in
           let right = all.level opened inner (drop 1 ts) b.0 b.1 in
-          let operand : Sentence (below l) right.used b.0.0 = subst (λ (r : Rule). Sentence r right.used b.0.0) (below_is l inner operands) right.sentence in
           let both : Expr = e.Binary o left b.0.0 in
-          let taken : List Token = mark_at m.0 (place ts) ∷ right.used in
-          let parts : ts ≡ taken ++ b.0.1 = front ∙ ap (λ (us : List Token). mark_at m.0 (place ts) ∷ us) right.parts in
+          let taken : List Token = token k (place ts) ∷ right.used in
+          let parts : ts ≡ taken ++ b.0.1 = front ∙ ap (λ (us : List Token). token k (place ts) ∷ us) right.parts in
           elim (chosen (repeats l) (more_at n opened l inner both b.0.1) (Ok (both, b.0.1)) (Ok x) b.2) [
             | inl t ↦
                 let others = all.more opened l inner both b.0.1 x operands t.1 in
                 record {
                   used = taken ++ others.used;
                   parts = parts ∙ ap (λ (us : List Token). taken ++ us) others.parts ∙ sym (append_assoc taken others.used x.1);
-                  sentence = λ vs v. subst (λ (us : List Token). Sentence (rule_of l) us x.0) (append_assoc vs taken others.used)
-                      (others.sentence (vs ++ taken) (again l (vs ++ taken) both t.0 (joins l m.0 o vs right.used left b.0.0 (place ts) m.2 v operand)));
+                  sentence = λ vs v. subst (λ (us : List Token). Sentence (at_level l) us x.0) (append_assoc vs taken others.used)
+                      (others.sentence (vs ++ taken) (again l inner (vs ++ taken) both t.0 (level_operator l inner k o vs right.used left b.0.0 (place ts) operands s.1 v right.sentence)));
                   ended = λ _. others.ended (right.ended tt);
-                  local = λ k rest enough alike. ap (more_at k opened l inner left) (append_assoc taken others.used rest) ∙ more_go n k opened l inner o (taken ++ (others.used ++ rest)) (others.used ++ rest) left b.0.0 (Ok (x.0, rest)) enough m.2 t.0
+                  local = λ turns rest enough alike. ap (more_at turns opened l inner left) (append_assoc taken others.used rest) ∙ more_go n turns opened l inner o (taken ++ (others.used ++ rest)) (others.used ++ rest) left b.0.0 (Ok (x.0, rest)) enough s.1 t.0
                       (λ j le. right.local j (others.used ++ rest) le (alike_here b.0.1 others.used x.1 rest others.parts alike)) (λ j le. others.local j rest le alike);
                 }
-            | inr t ↦ subst (Goes (λ k us. more_at k opened l inner left us) (suc n) (has_step ts ≡ false) (begun l) (rule_of l) left ts) (ok_is (both, b.0.1) x t.1) (record {
+            | inr t ↦ subst (Goes (λ k us. more_at k opened l inner left us) (suc n) (has_step ts ≡ false) (at_level (left_of l inner)) (at_level l) left ts) (ok_is (both, b.0.1) x t.1) (record {
               used = taken;
               parts = parts;
-              sentence = λ vs v. joins l m.0 o vs right.used left b.0.0 (place ts) m.2 v operand;
+              sentence = λ vs v. level_operator l inner k o vs right.used left b.0.0 (place ts) operands s.1 v right.sentence;
               ended = λ _. right.ended tt;
-              local = λ k rest enough alike. more_last n k opened l inner o (taken ++ rest) rest left b.0.0 enough m.2 t.0 (λ j le. right.local j rest le alike);
+              local = λ turns rest enough alike. more_last n turns opened l inner o (taken ++ rest) rest left b.0.0 enough s.1 t.0 (λ j le. right.local j rest le alike);
             })
           ]
-      | inr s ↦ subst (Goes (λ k us. more_at k opened l inner left us) (suc n) (has_step ts ≡ false) (begun l) (rule_of l) left ts) (ok_is (left, ts) x s.1) (record {
+      | inr s ↦ subst (Goes (λ k us. more_at k opened l inner left us) (suc n) (has_step ts ≡ false) (at_level (left_of l inner)) (at_level l) left ts) (ok_is (left, ts) x s.1) (record {
         used = [];
         parts = refl;
-        sentence = λ vs v. subst (λ (us : List Token). Sentence (rule_of l) us left) (sym (append-nil vs)) (ends l vs left v);
+        sentence = λ vs v. subst (λ (us : List Token). Sentence (at_level l) us left) (sym (append-nil vs)) (ends l inner vs left operands v);
         ended = λ none. none;
         local = λ k rest enough alike. more_none n k opened l inner rest left enough (ap (operator_of l) (sym alike.first) ∙ s.0);
       })
@@ -172,14 +171,15 @@ unary_found n all opened ts x h =
     elim (if_some_is (sign_of (first_kind ts)) (λ (s : Sign). unary_at n opened (drop 1 ts) >>= λ (y : Pair). Ok (signed s y.0, y.1)) (atom_at n opened ts >>= λ (y : Pair). steps_at n opened y.0 y.1) (Ok x) h) [
       | inl s ↦
           let b = bind_ok (unary_at n opened (drop 1 ts)) (λ (y : Pair). Ok (signed s.0 y.0, y.1)) x s.2 in
-          let front : ts ≡ mark_at (mark_of_sign s.0) (place ts) ∷ drop 1 ts = first_is ts (kind.Mark (mark_of_sign s.0)) (sign_mark (first_kind ts) s.0 s.1) refl in
+          let k = first_kind ts in
+          let front : ts ≡ token k (place ts) ∷ drop 1 ts = first_is ts k refl (sign_inner k s.0 s.1).2 in
           let inner = all.unary opened (drop 1 ts) b.0 b.1 in
           subst (Found (λ k us. unary_at k opened us) (suc n) (Unit {0}) unary ts) (ok_is (signed s.0 b.0.0, b.0.1) x b.2) (record {
-            used = mark_at (mark_of_sign s.0) (place ts) ∷ inner.used;
-            parts = front ∙ ap (λ (us : List Token). mark_at (mark_of_sign s.0) (place ts) ∷ us) inner.parts;
-            sentence = sign_joins s.0 inner.used b.0.0 (place ts) inner.sentence;
+            used = token k (place ts) ∷ inner.used;
+            parts = front ∙ ap (λ (us : List Token). token k (place ts) ∷ us) inner.parts;
+            sentence = unary_signed k s.0 inner.used b.0.0 (place ts) s.1 inner.sentence;
             ended = inner.ended;
-            local = λ k rest enough alike. unary_sign n k opened s.0 (mark_at (mark_of_sign s.0) (place ts) ∷ (inner.used ++ rest)) rest b.0.0 enough (sign_again s.0) (λ m le. inner.local m rest le alike);
+            local = λ turns rest enough alike. unary_sign n turns opened s.0 (token k (place ts) ∷ (inner.used ++ rest)) rest b.0.0 enough s.1 (λ m le. inner.local m rest le alike);
           })
       | inr s ↦
           let b = bind_ok (atom_at n opened ts) (λ (y : Pair). steps_at n opened y.0 y.1) x s.1 in
@@ -219,8 +219,8 @@ atom_found n all opened ts x h =
           let k = first_kind ts in
           subst (Found (λ k us. atom_at k opened us) (suc n) ⊥ atom ts) (ok_is (s.0, drop 1 ts) x s.2) (record {
             used = token k (place ts) ∷ [];
-            parts = first_is ts k refl (literal_other k s.0 s.1);
-            sentence = literal_joins k s.0 (place ts) s.1;
+            parts = first_is ts k refl (literal_inner k s.0 s.1).2;
+            sentence = atom_token k s.0 (place ts) s.1;
             ended = λ never. absurd never;
             local = λ m rest enough alike. atom_literal n m opened (token k (place ts) ∷ rest) s.0 enough s.1;
           })

@@ -10,7 +10,8 @@ use Rattle.doll_expr.specs.declared.level.Sign.{Sign}
 use Rattle.doll_expr.specs.declared.token.Token.{Token}
 use Rattle.doll_expr.specs.Grammar.{is_each}
 use Rattle.doll_expr.specs.Tokens.{is_dot}
-use Rattle.doll_expr.specs.Reading.{tighter, repeats, operator_of, sign_of, signed, literal, step_of, is_open, first_kind, place, has_step, fault_at, close_at, steps_at, level_at, more_at, unary_at, atom_at, Read}
+use Rattle.doll_expr.specs.Reading.{is_open, first_kind, place, has_step, fault_at, close_at, steps_at, level_at, more_at, unary_at, atom_at, Read}
+use Rattle.doll_expr.specs.Levels.{tighter, repeats, operator_of, sign_of, signed, literal, step_of}
 
 -- the first tokens are alike as far as the reading looks at them
 pub record Alike (r s : List Token) : Type 0 where

@@ -1,5 +1,5 @@
 -- Each sentence of the grammar is read, with its tree.
-use Rattle.std.proofs.Common.{◌≡◌, ℕ, zero, suc, ◌+◌, ◌-◌, ◌*◌, ◌≤◌, true, false, List, [], ◌∷◌, ◌++◌, length, Option, Some, None, Ok, refl, sym, ap, ◌∙◌, append_assoc, inl, inr, arith}
+use Rattle.std.proofs.Common.{◌≡◌, ℕ, zero, suc, ◌+◌, ◌-◌, ◌*◌, ◌≤◌, Bool, true, false, cond, List, [], ◌∷◌, ◌++◌, length, Option, Some, None, Ok, refl, sym, ap, subst, ◌∙◌, append_assoc, inl, inr, arith}
 use Rattle.std.proofs.lemmas.Bool.{cases_Bool}
 use Rattle.std.proofs.lemmas.List.{length-append}
 use Rattle.doll_expr.specs.declared.expr.Expr.{Expr}
@@ -8,16 +8,17 @@ use Rattle.doll_expr.specs.declared.expr.Op.{Op}
 use Rattle.doll_expr.specs.declared.expr.Op.TheVariants as op
 use Rattle.doll_expr.specs.declared.level.Level.{Level}
 use Rattle.doll_expr.specs.declared.level.Level.TheVariants as level
-use Rattle.doll_expr.specs.declared.token.Mark.{Mark}
+use Rattle.doll_expr.specs.declared.level.Sign.{Sign}
 use Rattle.doll_expr.specs.declared.token.Mark.TheVariants as mark
 use Rattle.doll_text.specs.declared.words.Word.TheVariants as word
 use Rattle.doll_expr.specs.declared.token.Token.{Token}
 use Rattle.doll_expr.specs.declared.token.TokenKind.{TokenKind}
 use Rattle.doll_expr.specs.declared.token.TokenKind.TheVariants as kind
 use Rattle.doll_expr.specs.Tokens.{is_dot, token, tokens_from, at_most, tokens_of}
-use Rattle.doll_expr.specs.Grammar.{is_each, Rule, expr, and, eq, cmp, sum, prod, unary, postfix, atom, Sentence, AreExpr, IsExpr, OneTree, begins_each, ends_before, ends_expr, mark_at, expr_one, expr_or, and_one, and_and, eq_one, eq_equal, eq_not_equal, cmp_one, cmp_less, cmp_less_or_equal, cmp_greater, cmp_greater_or_equal, sum_one, sum_plus, sum_minus, prod_one, prod_times, unary_one, unary_not, unary_minus, postfix_one, postfix_name, postfix_id, postfix_updated_at, postfix_size, postfix_ask, atom_number, atom_text, atom_nil, atom_true, atom_false, atom_name, atom_parentheses}
-use Rattle.doll_expr.specs.Reading.{tighter, repeats, between, operator_of, sign_of, literal, step_of, first_kind, has_step, close_at, steps_at, level_at, more_at, unary_at, atom_at, enough_fuel, expr_at, whole_of, expr_of, ◌>>=◌, Read}
-use Rattle.doll_expr.proofs.Rules.{ok_is}
+use Rattle.doll_expr.specs.Grammar.{is_each, Rule, at_level, expr, unary, postfix, atom, Sentence, AreExpr, IsExpr, OneTree, begins_each, ends_before, ends_expr, mark_at, level_one, level_operator, unary_one, unary_signed, postfix_one, postfix_step, atom_token, atom_parentheses}
+use Rattle.doll_expr.specs.Reading.{first_kind, has_step, close_at, steps_at, level_at, more_at, unary_at, atom_at, enough_fuel, expr_at, whole_of, expr_of, ◌>>=◌, Read}
+use Rattle.doll_expr.specs.Levels.{tighter, repeats, left_of, operator_of, sign_of, signed, literal, step_of}
+use Rattle.doll_expr.proofs.Rules.{some_level, k_of, k_below, step_other, literal_no_sign, ok_is}
 
 abbrev Pair : Type 0
 Pair = Expr × List Token
@@ -48,6 +49,55 @@ EndsAnd = Ends level.And EndsEq
 abbrev pub EndsOr : List Token → Type 0
 EndsOr = Ends level.Or EndsAnd
 
+-- a sentence of the level doesn't go on, and no operand of it
+abbrev EndsAt : Level → List Token → Type 0
+EndsAt level.Or = EndsOr
+EndsAt level.And = EndsAnd
+EndsAt level.Equality = EndsEq
+EndsAt level.Order = EndsCmp
+EndsAt level.Sum = EndsSum
+EndsAt level.Product = EndsProd
+EndsAt level.Unary = NoStep
+
+abbrev EndsOperand : Level → List Token → Type 0
+EndsOperand level.Or = EndsAnd
+EndsOperand level.And = EndsEq
+EndsOperand level.Equality = EndsCmp
+EndsOperand level.Order = EndsSum
+EndsOperand level.Sum = EndsProd
+EndsOperand level.Product = NoStep
+EndsOperand level.Unary = λ rest. Unit {0}
+
+-- an operator of a level ends the operand before it
+starts : (l : Level) (k : TokenKind) (o : Op) (at : ℕ) (us : List Token) → operator_of l k ≡ Some o → EndsOperand l (token k at ∷ us)
+starts level.Or (kind.Mark mark.Or) o at us h = (refl, (refl, (refl, (refl, (refl, refl)))))
+starts level.And (kind.Mark mark.And) o at us h = (refl, (refl, (refl, (refl, refl))))
+starts level.Equality (kind.Mark mark.Equal) o at us h = (refl, (refl, (refl, refl)))
+starts level.Equality (kind.Mark mark.NotEqual) o at us h = (refl, (refl, (refl, refl)))
+starts level.Order (kind.Mark mark.Less) o at us h = (refl, (refl, refl))
+starts level.Order (kind.Mark mark.LessOrEqual) o at us h = (refl, (refl, refl))
+starts level.Order (kind.Mark mark.Greater) o at us h = (refl, (refl, refl))
+starts level.Order (kind.Mark mark.GreaterOrEqual) o at us h = (refl, (refl, refl))
+starts level.Sum (kind.Mark mark.Plus) o at us h = (refl, refl)
+starts level.Sum (kind.Mark mark.Minus) o at us h = (refl, refl)
+starts level.Product (kind.Mark mark.Times) o at us h = refl
+starts level.Unary k o at us h = tt
+starts _ _ o at us h = absurd cc
+
+-- what of a level reading rests on
+record Inside (l inner : Level) : Type 0 where
+  ends : (rest : List Token) → EndsAt l rest → Ends l (EndsAt inner) rest
+  starts : (k : TokenKind) (o : Op) (at : ℕ) (us : List Token) → operator_of l k ≡ Some o → EndsAt inner (token k at ∷ us)
+
+inside : (l inner : Level) → tighter l ≡ Some inner → Inside l inner
+inside level.Or inner h = subst (Inside level.Or) (some_level level.And inner h) (record { ends = λ rest e. e; starts = starts level.Or })
+inside level.And inner h = subst (Inside level.And) (some_level level.Equality inner h) (record { ends = λ rest e. e; starts = starts level.And })
+inside level.Equality inner h = subst (Inside level.Equality) (some_level level.Order inner h) (record { ends = λ rest e. e; starts = starts level.Equality })
+inside level.Order inner h = subst (Inside level.Order) (some_level level.Sum inner h) (record { ends = λ rest e. e; starts = starts level.Order })
+inside level.Sum inner h = subst (Inside level.Sum) (some_level level.Product inner h) (record { ends = λ rest e. e; starts = starts level.Sum })
+inside level.Product inner h = subst (Inside level.Product) (some_level level.Unary inner h) (record { ends = λ rest e. e; starts = starts level.Product })
+inside level.Unary inner h = absurd cc
+
 -- ---- what is read, with fuel enough: `k`, and 16 for each token
 
 abbrev pub ReadsBy : Level → ℕ → (List Token → Type 0) → List Token → Expr → Type 0
@@ -74,40 +124,40 @@ goes_one l inner k E ts a operands some reads zero opened rest enough ends = abs
 goes_one l inner k E ts a operands some reads (suc n) opened rest enough ends =
     (n, omega arith, rw (operands, reads n opened rest (omega arith) ends) refl)
 
-one_operator : (n : ℕ) (opened : Option ℕ) (l inner : Level) (mk : Mark) (o : Op) (at : ℕ) (a b : Expr) (ts rest : List Token) → between l mk ≡ Some o → repeats l ≡ true → level_at n opened inner ts ≡ Ok (b, rest)
-    → more_at (suc n) opened l inner a (mark_at mk at ∷ ts) ≡ more_at n opened l inner (e.Binary o a b) rest
+one_operator : (n : ℕ) (opened : Option ℕ) (l inner : Level) (k : TokenKind) (o : Op) (at : ℕ) (a b : Expr) (ts rest : List Token) → operator_of l k ≡ Some o → repeats l ≡ true → level_at n opened inner ts ≡ Ok (b, rest)
+    → more_at (suc n) opened l inner a (token k at ∷ ts) ≡ more_at n opened l inner (e.Binary o a b) rest
 unfolding more_at
-one_operator n opened l inner mk o at a b ts rest is rep reads = rw (is, reads, rep) refl
+one_operator n opened l inner k o at a b ts rest is rep reads = rw (is, reads, rep) refl
 
-last_operator : (n : ℕ) (opened : Option ℕ) (l inner : Level) (mk : Mark) (o : Op) (at : ℕ) (a b : Expr) (ts rest : List Token) → between l mk ≡ Some o → repeats l ≡ false → level_at n opened inner ts ≡ Ok (b, rest)
-    → more_at (suc n) opened l inner a (mark_at mk at ∷ ts) ≡ Ok (e.Binary o a b, rest)
+last_operator : (n : ℕ) (opened : Option ℕ) (l inner : Level) (k : TokenKind) (o : Op) (at : ℕ) (a b : Expr) (ts rest : List Token) → operator_of l k ≡ Some o → repeats l ≡ false → level_at n opened inner ts ≡ Ok (b, rest)
+    → more_at (suc n) opened l inner a (token k at ∷ ts) ≡ Ok (e.Binary o a b, rest)
 unfolding more_at
-last_operator n opened l inner mk o at a b ts rest is rep reads = rw (is, reads, rep) refl
+last_operator n opened l inner k o at a b ts rest is rep reads = rw (is, reads, rep) refl
 
-abbrev Starts : (List Token → Type 0) → Mark → ℕ → Type 0
-Starts E mk at = (us : List Token) → E (mark_at mk at ∷ us)
+abbrev Starts : (List Token → Type 0) → TokenKind → ℕ → Type 0
+Starts E kind at = (us : List Token) → E (token kind at ∷ us)
 
-goes_more : (l inner : Level) (k : ℕ) (E : List Token → Type 0) (mk : Mark) (o : Op) (at : ℕ) (ts us : List Token) (a b : Expr) → repeats l ≡ true → between l mk ≡ Some o → Starts E mk at
-    → GoesBy l inner (k + 1) E ts a → ReadsBy inner k E us b → GoesBy l inner (k + 1) E (ts ++ mark_at mk at ∷ us) (e.Binary o a b)
-goes_more l inner k E mk o at ts us a b rep is starts left right n opened rest enough ends =
-    let len : length (ts ++ mark_at mk at ∷ us) ≡ length ts + (length us + 1) = omega (arith, length-append ts (mark_at mk at ∷ us)) in
-    let g = left n opened (mark_at mk at ∷ (us ++ rest)) (omega (arith, len, enough)) (starts (us ++ rest)) in
+goes_more : (l inner : Level) (k : ℕ) (E : List Token → Type 0) (kind : TokenKind) (o : Op) (at : ℕ) (ts us : List Token) (a b : Expr) → repeats l ≡ true → operator_of l kind ≡ Some o → Starts E kind at
+    → GoesBy l inner (k + 1) E ts a → ReadsBy inner k E us b → GoesBy l inner (k + 1) E (ts ++ token kind at ∷ us) (e.Binary o a b)
+goes_more l inner k E kind o at ts us a b rep is starts left right n opened rest enough ends =
+    let len : length (ts ++ token kind at ∷ us) ≡ length ts + (length us + 1) = omega (arith, length-append ts (token kind at ∷ us)) in
+    let g = left n opened (token kind at ∷ (us ++ rest)) (omega (arith, len, enough)) (starts (us ++ rest)) in
     let room : n ≤ g.0 + 16 * length ts = g.1 in
     let turn : g.0 ≡ suc (g.0 - 1) = omega (arith, len, enough, room) in
     let r = right (g.0 - 1) opened rest (omega (arith, len, enough, room)) ends in
-    let one = one_operator (g.0 - 1) opened l inner mk o at a b (us ++ rest) rest is rep r in
-    (g.0 - 1, omega (arith, len, enough, room), ap (level_at n opened l) (append_assoc ts (mark_at mk at ∷ us) rest) ∙ g.2 ∙ ap (λ (m : ℕ). more_at m opened l inner a (mark_at mk at ∷ (us ++ rest))) turn ∙ one)
+    let one = one_operator (g.0 - 1) opened l inner kind o at a b (us ++ rest) rest is rep r in
+    (g.0 - 1, omega (arith, len, enough, room), ap (level_at n opened l) (append_assoc ts (token kind at ∷ us) rest) ∙ g.2 ∙ ap (λ (m : ℕ). more_at m opened l inner a (token kind at ∷ (us ++ rest))) turn ∙ one)
 
-reads_once : (l inner : Level) (k : ℕ) (E : List Token → Type 0) (mk : Mark) (o : Op) (at : ℕ) (ts us : List Token) (a b : Expr) → tighter l ≡ Some inner → repeats l ≡ false → between l mk ≡ Some o → Starts E mk at → 1 ≤ length ts
-    → ReadsBy inner k E ts a → ReadsBy inner k E us b → ReadsBy l (k + 1) (Ends l E) (ts ++ mark_at mk at ∷ us) (e.Binary o a b)
-reads_once l inner k E mk o at ts us a b operands rep is starts some left right n opened rest enough ends =
-    let len : length (ts ++ mark_at mk at ∷ us) ≡ length ts + (length us + 1) = omega (arith, length-append ts (mark_at mk at ∷ us)) in
-    let g = goes_one l inner k E ts a operands some left n opened (mark_at mk at ∷ (us ++ rest)) (omega (arith, len, enough)) (starts (us ++ rest)) in
+reads_once : (l inner : Level) (k : ℕ) (E : List Token → Type 0) (kind : TokenKind) (o : Op) (at : ℕ) (ts us : List Token) (a b : Expr) → tighter l ≡ Some inner → repeats l ≡ false → operator_of l kind ≡ Some o → Starts E kind at → 1 ≤ length ts
+    → ReadsBy inner k E ts a → ReadsBy inner k E us b → ReadsBy l (k + 1) (Ends l E) (ts ++ token kind at ∷ us) (e.Binary o a b)
+reads_once l inner k E kind o at ts us a b operands rep is starts some left right n opened rest enough ends =
+    let len : length (ts ++ token kind at ∷ us) ≡ length ts + (length us + 1) = omega (arith, length-append ts (token kind at ∷ us)) in
+    let g = goes_one l inner k E ts a operands some left n opened (token kind at ∷ (us ++ rest)) (omega (arith, len, enough)) (starts (us ++ rest)) in
     let room : n ≤ g.0 + 16 * length ts = g.1 in
     let turn : g.0 ≡ suc (g.0 - 1) = omega (arith, len, enough, room) in
     let r = right (g.0 - 1) opened rest (omega (arith, len, enough, room)) ends.1 in
-    let last = last_operator (g.0 - 1) opened l inner mk o at a b (us ++ rest) rest is rep r in
-    ap (level_at n opened l) (append_assoc ts (mark_at mk at ∷ us) rest) ∙ g.2 ∙ ap (λ (m : ℕ). more_at m opened l inner a (mark_at mk at ∷ (us ++ rest))) turn ∙ last
+    let last = last_operator (g.0 - 1) opened l inner kind o at a b (us ++ rest) rest is rep r in
+    ap (level_at n opened l) (append_assoc ts (token kind at ∷ us) rest) ∙ g.2 ∙ ap (λ (m : ℕ). more_at m opened l inner a (token kind at ∷ (us ++ rest))) turn ∙ last
 
 -- ---- signs, atoms and steps
 
@@ -131,6 +181,10 @@ unfolding level_at
 unary_level ts a reads zero opened rest enough ends = absurd (omega arith)
 unary_level ts a reads (suc n) opened rest enough ends = reads n opened rest (omega arith) ends
 
+unary_reads : (ts : List Token) (a : Expr) → ReadsBy level.Unary 3 NoStep ts a → ReadsUnary ts a
+unfolding level_at
+unary_reads ts a reads n opened rest enough ends = reads (suc n) opened rest (omega (arith, enough)) ends
+
 no_steps : (m : ℕ) (opened : Option ℕ) (a : Expr) (rest : List Token) → 1 ≤ m → has_step rest ≡ false → steps_at m opened a rest ≡ Ok (a, rest)
 unfolding steps_at
 no_steps zero opened a rest some none = absurd (omega arith)
@@ -147,15 +201,10 @@ reads_postfix ts a none goes (suc n) opened rest enough ends =
     let room : n ≤ g.0 + 16 * length ts = g.1 in
     no_sign n opened (ts ++ rest) (none rest) ∙ g.2 ∙ no_steps g.0 opened a rest (omega (arith, enough, room)) ends
 
-reads_not : (ts : List Token) (a : Expr) (at : ℕ) → ReadsUnary ts a → ReadsUnary (mark_at mark.Not at ∷ ts) (e.Not a)
+reads_signed : (k : TokenKind) (s : Sign) (ts : List Token) (a : Expr) (at : ℕ) → sign_of k ≡ Some s → ReadsUnary ts a → ReadsUnary (token k at ∷ ts) (signed s a)
 unfolding unary_at
-reads_not ts a at reads zero opened rest enough ends = absurd (omega arith)
-reads_not ts a at reads (suc n) opened rest enough ends = rw (reads n opened rest (omega arith) ends) refl
-
-reads_minus : (ts : List Token) (a : Expr) (at : ℕ) → ReadsUnary ts a → ReadsUnary (mark_at mark.Minus at ∷ ts) (e.Neg a)
-unfolding unary_at
-reads_minus ts a at reads zero opened rest enough ends = absurd (omega arith)
-reads_minus ts a at reads (suc n) opened rest enough ends = rw (reads n opened rest (omega arith) ends) refl
+reads_signed k s ts a at is reads zero opened rest enough ends = absurd (omega arith)
+reads_signed k s ts a at is reads (suc n) opened rest enough ends = rw (is, reads n opened rest (omega arith) ends) refl
 
 goes_atom : (ts : List Token) (a : Expr) → ReadsAtom ts a → GoesPost ts a
 goes_atom ts a reads n opened rest enough = (n, omega arith, rw (reads n opened rest enough) refl)
@@ -192,14 +241,9 @@ reads_parentheses ts a opened closed reads (suc n) outer rest enough =
 
 -- ---- by the rules
 
+-- a level is read; where its operators follow each other, its tree stands on the left of whatever comes
 abbrev Claim : Rule → List Token → Expr → Type 0
-Claim expr ts a = (1 ≤ length ts) × GoesBy level.Or level.And 9 EndsAnd ts a
-Claim and ts a = (1 ≤ length ts) × GoesBy level.And level.Equality 8 EndsEq ts a
-Claim eq ts a = (1 ≤ length ts) × ReadsBy level.Equality 7 EndsEq ts a
-Claim cmp ts a = (1 ≤ length ts) × ReadsBy level.Order 6 EndsCmp ts a
-Claim sum ts a = (1 ≤ length ts) × GoesBy level.Sum level.Product 5 EndsProd ts a
-Claim prod ts a = (1 ≤ length ts) × GoesBy level.Product level.Unary 4 NoStep ts a
-Claim unary ts a = (1 ≤ length ts) × ReadsUnary ts a
+Claim (at_level l) ts a = (1 ≤ length ts) × ReadsBy l (k_of l) (EndsAt l) ts a × ((inner : Level) → tighter l ≡ Some inner → repeats l ≡ true → GoesBy l inner (k_of inner + 1) (EndsAt inner) ts a)
 Claim postfix ts a = (1 ≤ length ts) × NoSign ts × GoesPost ts a
 Claim atom ts a = (1 ≤ length ts) × NoSign ts × ReadsAtom ts a
 
@@ -209,87 +253,45 @@ longer ts t us = omega (arith, length-append ts (t ∷ us))
 still_no_sign : (ts us : List Token) → NoSign ts → NoSign (ts ++ us)
 still_no_sign ts us none rest = ap (λ (vs : List Token). sign_of (first_kind vs)) (append_assoc ts us rest) ∙ none (us ++ rest)
 
-and_reads : (ts : List Token) (a : Expr) → Claim and ts a → ReadsBy level.And 8 EndsAnd ts a
-and_reads ts a c = reads_of level.And level.Equality 8 EndsEq ts a (omega arith) c.1
+reads_at : (l inner : Level) (ts : List Token) (a : Expr) → tighter l ≡ Some inner → ReadsBy l (k_of inner + 1) (Ends l (EndsAt inner)) ts a → ReadsBy l (k_of l) (EndsAt l) ts a
+reads_at l inner ts a is reads n opened rest enough ends = reads n opened rest (omega (arith, k_below l inner is, enough)) ((inside l inner is).ends rest ends)
 
-sum_reads : (ts : List Token) (a : Expr) → Claim sum ts a → ReadsBy level.Sum 5 EndsSum ts a
-sum_reads ts a c = reads_of level.Sum level.Product 5 EndsProd ts a (omega arith) c.1
+-- from what goes on the left of whatever comes
+claim_goes : (l inner : Level) (ts : List Token) (a : Expr) → tighter l ≡ Some inner → 1 ≤ length ts → GoesBy l inner (k_of inner + 1) (EndsAt inner) ts a → Claim (at_level l) ts a
+claim_goes l inner ts a is some goes =
+    (some, reads_at l inner ts a is (reads_of l inner (k_of inner + 1) (EndsAt inner) ts a (omega arith) goes), λ m other rep. subst (λ (x : Level). GoesBy l x (k_of x + 1) (EndsAt x) ts a) (some_level inner m (sym is ∙ other)) goes)
 
-prod_reads : (ts : List Token) (a : Expr) → Claim prod ts a → ReadsBy level.Product 4 EndsProd ts a
-prod_reads ts a c = reads_of level.Product level.Unary 4 NoStep ts a (omega arith) c.1
+claim_unary : (ts : List Token) (a : Expr) → 1 ≤ length ts → ReadsUnary ts a → Claim unary ts a
+claim_unary ts a some reads = (some, unary_level ts a reads, λ inner is rep. absurd cc)
 
-equality : (m : Mark) (o : Op) (ts us : List Token) (a b : Expr) (at : ℕ) → between level.Equality m ≡ Some o → Starts EndsCmp m at → Claim cmp ts a → Claim cmp us b → Claim eq (ts ++ mark_at m at ∷ us) (e.Binary o a b)
-equality m o ts us a b at is starts x y = (longer ts (mark_at m at) us, reads_once level.Equality level.Order 6 EndsCmp m o at ts us a b refl refl is starts x.0 x.1 y.1)
-
-order : (m : Mark) (o : Op) (ts us : List Token) (a b : Expr) (at : ℕ) → between level.Order m ≡ Some o → Starts EndsSum m at → Claim sum ts a → Claim sum us b → Claim cmp (ts ++ mark_at m at ∷ us) (e.Binary o a b)
-order m o ts us a b at is starts x y = (longer ts (mark_at m at) us, reads_once level.Order level.Sum 5 EndsSum m o at ts us a b refl refl is starts x.0 (sum_reads ts a x) (sum_reads us b y))
-
-summand : (m : Mark) (o : Op) (ts us : List Token) (a b : Expr) (at : ℕ) → between level.Sum m ≡ Some o → Starts EndsProd m at → Claim sum ts a → Claim prod us b → Claim sum (ts ++ mark_at m at ∷ us) (e.Binary o a b)
-summand m o ts us a b at is starts x y = (longer ts (mark_at m at) us, goes_more level.Sum level.Product 4 EndsProd m o at ts us a b refl is starts x.1 (prod_reads us b y))
-
-step : (ts : List Token) (a b : Expr) (k : TokenKind) (dot at : ℕ) → is_each k ≡ false → step_of a k ≡ Some b → Claim postfix ts a → Claim postfix (ts ++ mark_at mark.Dot dot ∷ token k at ∷ []) b
-step ts a b k dot at other is x = (longer ts (mark_at mark.Dot dot) (token k at ∷ []), still_no_sign ts (mark_at mark.Dot dot ∷ token k at ∷ []) x.1, goes_step ts a b k dot at other is x.2)
-
-single : (k : TokenKind) (a : Expr) (at : ℕ) → sign_of k ≡ None → literal k ≡ Some a → Claim atom (token k at ∷ []) a
-single k a at none is = (omega arith, (λ rest. none), reads_literal k a at is)
+claim_operator : (l inner : Level) (k : TokenKind) (o : Op) (ts us : List Token) (a b : Expr) (at : ℕ) → tighter l ≡ Some inner → operator_of l k ≡ Some o
+    → Claim (at_level (left_of l inner)) ts a → Claim (at_level inner) us b → Claim (at_level l) (ts ++ token k at ∷ us) (e.Binary o a b)
+claim_operator l inner k o ts us a b at is op left right =
+    let ahead : Starts (EndsAt inner) k at = λ vs. (inside l inner is).starts k o at vs op in
+    elim (cases_Bool (repeats l)) [
+      | inl rep ↦
+          let x : Claim (at_level l) ts a = subst (λ (repeated : Bool). Claim (at_level (cond repeated l inner)) ts a) rep left in
+          claim_goes l inner (ts ++ token k at ∷ us) (e.Binary o a b) is (longer ts (token k at) us) (goes_more l inner (k_of inner) (EndsAt inner) k o at ts us a b rep op ahead (x.2 inner is rep) right.1)
+      | inr once ↦
+          let x : Claim (at_level inner) ts a = subst (λ (repeated : Bool). Claim (at_level (cond repeated l inner)) ts a) once left in
+          (longer ts (token k at) us, reads_at l inner (ts ++ token k at ∷ us) (e.Binary o a b) is (reads_once l inner (k_of inner) (EndsAt inner) k o at ts us a b is once op ahead x.0 x.1 right.1), λ m other rep. absurd (let f : true ≡ false = sym rep ∙ once in cc))
+    ]
 
 claims : (r : Rule) (ts : List Token) (a : Expr) → Sentence r ts a → Claim r ts a
-claims _ _ _ (expr_one ts a s) = let x = claims and ts a s in (x.0, goes_one level.Or level.And 8 EndsAnd ts a refl x.0 (and_reads ts a x))
-claims _ _ _ (expr_or ts us a b at s t) =
-    let x = claims expr ts a s in
-    (longer ts (mark_at mark.Or at) us, goes_more level.Or level.And 8 EndsAnd mark.Or op.Or at ts us a b refl refl (λ vs. (refl, (refl, (refl, (refl, (refl, refl)))))) x.1 (and_reads us b (claims and us b t)))
-claims _ _ _ (and_one ts a s) = let x = claims eq ts a s in (x.0, goes_one level.And level.Equality 7 EndsEq ts a refl x.0 x.1)
-claims _ _ _ (and_and ts us a b at s t) =
-    let x = claims and ts a s in
-    let y = claims eq us b t in
-    (longer ts (mark_at mark.And at) us, goes_more level.And level.Equality 7 EndsEq mark.And op.And at ts us a b refl refl (λ vs. (refl, (refl, (refl, (refl, refl))))) x.1 y.1)
-claims _ _ _ (eq_one ts a s) =
-    let x = claims cmp ts a s in
-    (x.0, reads_of level.Equality level.Order 7 EndsCmp ts a (omega arith) (goes_one level.Equality level.Order 6 EndsCmp ts a refl x.0 x.1))
-claims _ _ _ (eq_equal ts us a b at s t) = equality mark.Equal op.Eq ts us a b at refl (λ vs. (refl, (refl, (refl, refl)))) (claims cmp ts a s) (claims cmp us b t)
-claims _ _ _ (eq_not_equal ts us a b at s t) = equality mark.NotEqual op.Ne ts us a b at refl (λ vs. (refl, (refl, (refl, refl)))) (claims cmp ts a s) (claims cmp us b t)
-claims _ _ _ (cmp_one ts a s) =
-    let x = claims sum ts a s in
-    (x.0, reads_of level.Order level.Sum 6 EndsSum ts a (omega arith) (goes_one level.Order level.Sum 5 EndsSum ts a refl x.0 (sum_reads ts a x)))
-claims _ _ _ (cmp_less ts us a b at s t) = order mark.Less op.Lt ts us a b at refl (λ vs. (refl, (refl, refl))) (claims sum ts a s) (claims sum us b t)
-claims _ _ _ (cmp_less_or_equal ts us a b at s t) = order mark.LessOrEqual op.Le ts us a b at refl (λ vs. (refl, (refl, refl))) (claims sum ts a s) (claims sum us b t)
-claims _ _ _ (cmp_greater ts us a b at s t) = order mark.Greater op.Gt ts us a b at refl (λ vs. (refl, (refl, refl))) (claims sum ts a s) (claims sum us b t)
-claims _ _ _ (cmp_greater_or_equal ts us a b at s t) = order mark.GreaterOrEqual op.Ge ts us a b at refl (λ vs. (refl, (refl, refl))) (claims sum ts a s) (claims sum us b t)
-claims _ _ _ (sum_one ts a s) = let x = claims prod ts a s in (x.0, goes_one level.Sum level.Product 4 EndsProd ts a refl x.0 (prod_reads ts a x))
-claims _ _ _ (sum_plus ts us a b at s t) = summand mark.Plus op.Add ts us a b at refl (λ vs. (refl, refl)) (claims sum ts a s) (claims prod us b t)
-claims _ _ _ (sum_minus ts us a b at s t) = summand mark.Minus op.Sub ts us a b at refl (λ vs. (refl, refl)) (claims sum ts a s) (claims prod us b t)
-claims _ _ _ (prod_one ts a s) = let x = claims unary ts a s in (x.0, goes_one level.Product level.Unary 3 NoStep ts a refl x.0 (unary_level ts a x.1))
-claims _ _ _ (prod_times ts us a b at s t) =
-    let x = claims prod ts a s in
-    let y = claims unary us b t in
-    (longer ts (mark_at mark.Times at) us, goes_more level.Product level.Unary 3 NoStep mark.Times op.Mul at ts us a b refl refl (λ vs. refl) x.1 (unary_level us b y.1))
-claims _ _ _ (unary_one ts a s) = let x = claims postfix ts a s in (x.0, reads_postfix ts a x.1 x.2)
-claims _ _ _ (unary_not ts a at s) = let x = claims unary ts a s in (omega arith, reads_not ts a at x.1)
-claims _ _ _ (unary_minus ts a at s) = let x = claims unary ts a s in (omega arith, reads_minus ts a at x.1)
+claims _ _ _ (level_one l inner ts a is s) =
+    let x = claims (at_level inner) ts a s in claim_goes l inner ts a is x.0 (goes_one l inner (k_of inner) (EndsAt inner) ts a is x.0 x.1)
+claims _ _ _ (level_operator l inner k o ts us a b at is op s t) = claim_operator l inner k o ts us a b at is op (claims (at_level (left_of l inner)) ts a s) (claims (at_level inner) us b t)
+claims _ _ _ (unary_one ts a s) = let x = claims postfix ts a s in claim_unary ts a x.0 (reads_postfix ts a x.1 x.2)
+claims _ _ _ (unary_signed k s ts a at is t) = claim_unary (token k at ∷ ts) (signed s a) (omega arith) (reads_signed k s ts a at is (unary_reads ts a (claims unary ts a t).1))
 claims _ _ _ (postfix_one ts a s) = let x = claims atom ts a s in (x.0, x.1, goes_atom ts a x.2)
-claims _ _ _ (postfix_name ts a name dot at s) = step ts a _ (kind.Name name) dot at refl refl (claims postfix ts a s)
-claims _ _ _ (postfix_id ts a dot at s) = step ts a _ (kind.Word word.Id) dot at refl refl (claims postfix ts a s)
-claims _ _ _ (postfix_updated_at ts a dot at s) = step ts a _ (kind.Word word.UpdatedAt) dot at refl refl (claims postfix ts a s)
-claims _ _ _ (postfix_size ts a dot at s) = step ts a _ (kind.Word word.Size) dot at refl refl (claims postfix ts a s)
-claims _ _ _ (postfix_ask ts a q dot at s) = step ts a _ (kind.Ask q) dot at refl refl (claims postfix ts a s)
-claims _ _ _ (atom_number n at) = single (kind.Number n) _ at refl refl
-claims _ _ _ (atom_text text at) = single (kind.Text text) _ at refl refl
-claims _ _ _ (atom_nil at) = single (kind.Word word.Nil) _ at refl refl
-claims _ _ _ (atom_true at) = single (kind.Word word.True) _ at refl refl
-claims _ _ _ (atom_false at) = single (kind.Word word.False) _ at refl refl
-claims _ _ _ (atom_name name at) = single (kind.Name name) _ at refl refl
-claims _ _ _ (atom_parentheses ts a opened closed s) =
-    let x = claims expr ts a s in
-    (omega arith, (λ rest. refl), reads_parentheses ts a opened closed (reads_of level.Or level.And 9 EndsAnd ts a (omega arith) x.1))
+claims _ _ _ (postfix_step k ts a b dot at is s) =
+    let x = claims postfix ts a s in
+    (longer ts (mark_at mark.Dot dot) (token k at ∷ []), still_no_sign ts (mark_at mark.Dot dot ∷ token k at ∷ []) x.1, goes_step ts a b k dot at (step_other a b k is) is x.2)
+claims _ _ _ (atom_token k a at is) = (omega arith, (λ rest. literal_no_sign k a is), reads_literal k a at is)
+claims _ _ _ (atom_parentheses ts a opened closed s) = (omega arith, (λ rest. refl), reads_parentheses ts a opened closed (claims expr ts a s).1)
 
 claim_some : (r : Rule) (ts : List Token) (a : Expr) → Claim r ts a → 1 ≤ length ts
-claim_some expr ts a c = c.0
-claim_some and ts a c = c.0
-claim_some eq ts a c = c.0
-claim_some cmp ts a c = c.0
-claim_some sum ts a c = c.0
-claim_some prod ts a c = c.0
-claim_some unary ts a c = c.0
+claim_some (at_level l) ts a c = c.0
 claim_some postfix ts a c = c.0
 claim_some atom ts a c = c.0
 
@@ -303,7 +305,7 @@ enough = omega arith
 
 -- a sentence at the front of tokens, with fuel enough for it
 pub sentence_reads : (n : ℕ) (ts rest : List Token) (a : Expr) → Sentence expr ts a → 9 + 16 * length ts ≤ n → EndsOr rest → level_at n None level.Or (ts ++ rest) ≡ Ok (a, rest)
-sentence_reads n ts rest a s enough ends = reads_of level.Or level.And 9 EndsAnd ts a (omega arith) (claims expr ts a s).1 n None rest enough ends
+sentence_reads n ts rest a s enough ends = (claims expr ts a s).1 n None rest enough ends
 
 -- a sentence at the front of tokens
 pub expr_only : (ts rest : List Token) (a : Expr) → Sentence expr ts a → length ts ≤ 200 → EndsOr rest → expr_at (ts ++ rest) ≡ Ok (a, rest)

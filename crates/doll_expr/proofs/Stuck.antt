@@ -17,14 +17,15 @@ use Rattle.doll_expr.specs.declared.token.Token.{Token}
 use Rattle.doll_expr.specs.declared.token.TokenKind.{TokenKind}
 use Rattle.doll_expr.specs.declared.token.TokenKind.TheVariants as kind
 use Rattle.doll_expr.specs.Tokens.{is_dot, is_last, token}
-use Rattle.doll_expr.specs.Grammar.{Rule, unary, postfix, atom, Sentence, is_each, mark_at, word_at, unary_one, postfix_one, postfix_id}
-use Rattle.doll_expr.specs.Reading.{tighter, repeats, between, operator_of, sign_of, signed, step_of, first_kind, place, has_step, fault_of, fault_at, stops_at, steps_at, level_at, more_at, unary_at, atom_at, ◌>>=◌, Read}
+use Rattle.doll_expr.specs.Grammar.{Rule, at_level, unary, postfix, atom, Sentence, is_each, mark_at, word_at, level_one, level_operator, unary_one, unary_signed, postfix_one, postfix_step}
+use Rattle.doll_expr.specs.Reading.{first_kind, place, has_step, fault_of, fault_at, stops_at, steps_at, level_at, more_at, unary_at, atom_at, ◌>>=◌, Read}
+use Rattle.doll_expr.specs.Levels.{left_of, tighter, repeats, between, operator_of, sign_of, signed, step_of}
 use Rattle.doll_expr.specs.Faults.{opened_by, opened_after, fault_behind}
-use Rattle.doll_expr.proofs.Rules.{rule_of, below, begun, below_is, unary_is, lifts, begins, again, joins, first_is, operator_mark, mark_of_sign, sign_mark, sign_again, sign_joins, dot_is, step_joins, if_some_is, chosen}
+use Rattle.doll_expr.proofs.Rules.{unary_is, begins, again, k_of, k_below, k_small, first_is, operator_inner, operator_no_dot, sign_inner, step_inner, dot_is, if_some_is, chosen}
 use Rattle.doll_expr.proofs.Fuel.{Alike, steps_go, steps_stop, level_go, level_stop, level_last, more_go, more_stop, unary_sign_stop, unary_go, unary_stop}
 use Rattle.doll_expr.proofs.Found.{Pair, step_is, all_found}
 use Rattle.doll_expr.proofs.Only.{some_tokens}
-use Rattle.doll_expr.proofs.Shapes.{after_append, Even, even, plain, GoesOn}
+use Rattle.doll_expr.proofs.Shapes.{after_append, Even, even, plain, GoesOn, step_behind}
 use Rattle.doll_expr.proofs.Ended.{Ended, ended_rest, ended_behind, some_left}
 
 -- ---- what this rests on
@@ -48,55 +49,6 @@ agrees_at opened places ts f is h = sym h ∙ ap (λ (o : Option ℕ). fault_of 
 
 pub err_is : (f g : ExprFault) → ◌≡◌ {A = Read} (Err f) (Err g) → f ≡ g
 err_is f g h = cc
-
-open_none : (l : Level) → between l mark.Open ≡ None
-open_none level.Or = refl
-open_none level.And = refl
-open_none level.Equality = refl
-open_none level.Order = refl
-open_none level.Sum = refl
-open_none level.Product = refl
-open_none level.Unary = refl
-
-close_none : (l : Level) → between l mark.Close ≡ None
-close_none level.Or = refl
-close_none level.And = refl
-close_none level.Equality = refl
-close_none level.Order = refl
-close_none level.Sum = refl
-close_none level.Product = refl
-close_none level.Unary = refl
-
-dot_none : (l : Level) → between l mark.Dot ≡ None
-dot_none level.Or = refl
-dot_none level.And = refl
-dot_none level.Equality = refl
-dot_none level.Order = refl
-dot_none level.Sum = refl
-dot_none level.Product = refl
-dot_none level.Unary = refl
-
-operator_even : (l : Level) (m : Mark) (o : Op) (places : List ℕ) (at : ℕ) → between l m ≡ Some o → opened_by places at (kind.Mark m) ≡ places
-operator_even l mark.Open o places at h = absurd (let i = open_none l in cc)
-operator_even l mark.Close o places at h = absurd (let i = close_none l in cc)
-operator_even l _ o places at h = refl
-
-operator_other : (l : Level) (m : Mark) (o : Op) → between l m ≡ Some o → is_dot (kind.Mark m) ≡ false
-operator_other l mark.Dot o h = absurd (let i = dot_none l in cc)
-operator_other l _ o h = refl
-
-sign_even : (s : Sign) (places : List ℕ) (at : ℕ) → opened_by places at (kind.Mark (mark_of_sign s)) ≡ places
-sign_even sign.Not places at = refl
-sign_even sign.Minus places at = refl
-
-step_even : (a b : Expr) (k : TokenKind) (places : List ℕ) (at : ℕ) → step_of a k ≡ Some b → opened_by places at k ≡ places
-step_even a b (kind.Mark m) places at h = absurd cc
-step_even a b _ places at h = refl
-
-step_plain : (a b : Expr) (k : TokenKind) → step_of a k ≡ Some b → is_last k ≡ false
-step_plain a b kind.End h = absurd cc
-step_plain a b (kind.Fault f) h = absurd cc
-step_plain a b _ h = refl
 
 alike_front : (t : Token) (us vs : List Token) → is_dot t.kind ≡ false → Alike (t ∷ us) (t ∷ vs)
 alike_front t us vs other = record { first = refl; step = rw other refl }
@@ -156,7 +108,7 @@ steps_stuck (suc n) opened a ts f enough ended h =
             let step : List Token = mark_at mark.Dot st.places.0 ∷ token st.kind st.places.1 ∷ [] in
             let whole : ts ≡ step ++ rest = st.front in
             let len : length ts ≡ length rest + 2 = omega (arith, ap length whole) in
-            let rest_ended : Ended rest = ended_behind step rest (refl, (step_plain a b st.kind st.is, tt)) (subst Ended whole ended) in
+            let rest_ended : Ended rest = ended_behind step rest (refl, ((step_inner a b st.kind st.is).1, tt)) (subst Ended whole ended) in
             let more = steps_stuck n opened b rest f (omega (arith, len, enough)) rest_ended t.2 in
             record {
               before = step ++ more.before;
@@ -165,9 +117,9 @@ steps_stuck (suc n) opened a ts f enough ended h =
               parts = whole ∙ ap (λ (us : List Token). step ++ us) more.parts;
               alike = λ us. subst (λ (vs : List Token). Alike vs (step ++ (more.before ++ more.stop ∷ us))) (sym whole) (record { first = refl; step = refl });
               local = λ k us le. steps_go n k opened a b (step ++ (more.before ++ more.stop ∷ us)) (Err f) le st.other st.is (λ m le. more.local m us le);
-              fault = λ places is. more.fault places is ∙ over_one more.before places (opened_by places st.places.1 st.kind) more.stop (step_even a b st.kind places st.places.1 st.is);
+              fault = λ places is. more.fault places is ∙ over_one more.before places (opened_by places st.places.1 st.kind) more.stop ((step_inner a b st.kind st.is).0 places st.places.1);
               begins = λ vs v.
-                  let g = more.begins (vs ++ step) (step_joins a b st.kind vs st.places.0 st.places.1 st.is v) in
+                  let g = more.begins (vs ++ step) (postfix_step st.kind vs a b st.places.0 st.places.1 st.is v) in
                   (g.0, subst (GoesOn postfix) (append_assoc vs step (more.before ++ g.0)) g.1);
             }
         | inr t ↦
@@ -185,7 +137,7 @@ steps_stuck (suc n) opened a ts f enough ended h =
               alike = λ us. subst (λ (vs : List Token). Alike vs (dot ++ t1 ∷ us)) (sym front) (record { first = refl; step = refl });
               local = λ k us le. steps_stop n k opened a (dot ++ t1 ∷ us) le other t.0 ∙ again_at opened t1 (drop 1 rest) us ∙ ap (λ (vs : List Token). Err (fault_at opened vs)) (sym (some_left rest rest_ended)) ∙ t.1;
               fault = λ places is. agrees_at opened places rest f is (err_is (fault_at opened rest) f t.1);
-              begins = λ vs v. (word_at word.Id 0 ∷ [], (_, postfix_id vs a (place ts) 0 v));
+              begins = λ vs v. (word_at word.Id 0 ∷ [], step_behind (place ts) vs a v);
             }
       ]
       | inr s ↦ absurd (let g : Ok (a, ts) ≡ Err f = s.1 in cc)
@@ -256,46 +208,13 @@ stops opened ts ended none =
 
 -- ---- by the fuel
 
-abbrev pub k_of : Level → ℕ
-k_of level.Or = 9
-k_of level.And = 8
-k_of level.Equality = 7
-k_of level.Order = 6
-k_of level.Sum = 5
-k_of level.Product = 4
-k_of level.Unary = 3
-
-k_below : (l inner : Level) → tighter l ≡ Some inner → k_of l ≡ k_of inner + 1
-k_below level.Or inner h = let i : level.And ≡ inner = cc in ap (λ (x : Level). k_of x + 1) i
-k_below level.And inner h = let i : level.Equality ≡ inner = cc in ap (λ (x : Level). k_of x + 1) i
-k_below level.Equality inner h = let i : level.Order ≡ inner = cc in ap (λ (x : Level). k_of x + 1) i
-k_below level.Order inner h = let i : level.Sum ≡ inner = cc in ap (λ (x : Level). k_of x + 1) i
-k_below level.Sum inner h = let i : level.Product ≡ inner = cc in ap (λ (x : Level). k_of x + 1) i
-k_below level.Product inner h = let i : level.Unary ≡ inner = cc in ap (λ (x : Level). k_of x + 1) i
-k_below level.Unary inner h = absurd cc
-
 k_last : (l : Level) → tighter l ≡ None → k_of l ≡ 3
-k_last level.Or h = absurd cc
-k_last level.And h = absurd cc
-k_last level.Equality h = absurd cc
-k_last level.Order h = absurd cc
-k_last level.Sum h = absurd cc
-k_last level.Product h = absurd cc
-k_last level.Unary h = refl
-
-k_small : (l : Level) → k_of l ≤ 9
-k_small level.Or = omega arith
-k_small level.And = omega arith
-k_small level.Equality = omega arith
-k_small level.Order = omega arith
-k_small level.Sum = omega arith
-k_small level.Product = omega arith
-k_small level.Unary = omega arith
+k_last l h = ap k_of (unary_is l h)
 
 pub record AllStuck (n : ℕ) : Type 0 where
-  pub level : (opened : Option ℕ) (l : Level) (ts : List Token) (f : ExprFault) → k_of l + 16 * length ts ≤ n → Ended ts → level_at n opened l ts ≡ Err f → Stuck (λ k us. level_at k opened l us) n (rule_of l) opened ts f
+  pub level : (opened : Option ℕ) (l : Level) (ts : List Token) (f : ExprFault) → k_of l + 16 * length ts ≤ n → Ended ts → level_at n opened l ts ≡ Err f → Stuck (λ k us. level_at k opened l us) n (at_level l) opened ts f
   pub more : (opened : Option ℕ) (l inner : Level) (left : Expr) (ts : List Token) (f : ExprFault) → tighter l ≡ Some inner → 16 * length ts ≤ n → Ended ts → more_at n opened l inner left ts ≡ Err f
-      → StuckBehind (λ k us. more_at k opened l inner left us) n (begun l) (rule_of l) left opened ts f
+      → StuckBehind (λ k us. more_at k opened l inner left us) n (at_level (left_of l inner)) (at_level l) left opened ts f
   pub unary : (opened : Option ℕ) (ts : List Token) (f : ExprFault) → 2 + 16 * length ts ≤ n → Ended ts → unary_at n opened ts ≡ Err f → Stuck (λ k us. unary_at k opened us) n unary opened ts f
   pub atom : (opened : Option ℕ) (ts : List Token) (f : ExprFault) → 16 * length ts ≤ n → Ended ts → atom_at n opened ts ≡ Err f → Stuck (λ k us. atom_at k opened us) n atom opened ts f
 
@@ -315,7 +234,7 @@ left_behind r ts used rest a ended parts s = record {
 }
 
 pub level_stuck : (n : ℕ) → AllStuck n → (opened : Option ℕ) (l : Level) (ts : List Token) (f : ExprFault) → k_of l + 16 * length ts ≤ suc n → Ended ts → level_at (suc n) opened l ts ≡ Err f
-    → Stuck (λ k us. level_at k opened l us) (suc n) (rule_of l) opened ts f
+    → Stuck (λ k us. level_at k opened l us) (suc n) (at_level l) opened ts f
 unfolding level_at
 level_stuck n all opened l ts f enough ended h =
     elim (if_some_is (tighter l) (λ (inner : Level). level_at n opened inner ts >>= λ (y : Pair). more_at n opened l inner y.0 y.1) (unary_at n opened ts) (Err f) h) [
@@ -332,15 +251,14 @@ level_stuck n all opened l ts f enough ended h =
                   parts = inner.parts;
                   local = λ m us le. level_stop n m opened l s.0 (inner.before ++ inner.stop ∷ us) f le s.1 (λ j lj. inner.local j us lj);
                   fault = inner.fault;
-                  begins = (g.0, (g.1.0, lifts l (inner.before ++ g.0) g.1.0 (subst (λ (r : Rule). Sentence r (inner.before ++ g.0) g.1.0) (below_is l s.0 s.1) g.1.1)));
+                  begins = (g.0, (g.1.0, level_one l s.0 (inner.before ++ g.0) g.1.0 s.1 g.1.1));
                 }
             | inr b ↦
                 let first = (all_found n).level opened s.0 ts b.0 b.1 in
-                let left = left_behind (rule_of s.0) ts first.used b.0.1 b.0.0 ended first.parts first.sentence in
+                let left = left_behind (at_level s.0) ts first.used b.0.1 b.0.0 ended first.parts first.sentence in
                 let small = k_small l in
                 let others = all.more opened l s.0 b.0.0 b.0.1 f s.1 (omega (arith, left.len, left.some, enough)) left.ended b.2 in
-                let operand : Sentence (below l) first.used b.0.0 = subst (λ (r : Rule). Sentence r first.used b.0.0) (below_is l s.0 s.1) first.sentence in
-                let g = others.begins first.used (begins l first.used b.0.0 operand) in
+                let g = others.begins first.used (begins l s.0 first.used b.0.0 s.1 first.sentence) in
                 record {
                   before = first.used ++ others.before;
                   stop = others.stop;
@@ -349,7 +267,7 @@ level_stuck n all opened l ts f enough ended h =
                   local = λ m us le. ap (level_at m opened l) (append_assoc first.used others.before (others.stop ∷ us)) ∙ level_go n m opened l s.0 (first.used ++ (others.before ++ others.stop ∷ us)) (others.before ++ others.stop ∷ us) b.0.0 (Err f) le s.1
                       (λ j lj. first.local j (others.before ++ others.stop ∷ us) lj (others.alike us)) (λ j lj. others.local j us lj);
                   fault = λ places is. others.fault places is ∙ over_even first.used others.before places others.stop left.even;
-                  begins = (g.0, subst (GoesOn (rule_of l)) (sym (append_assoc first.used others.before g.0)) g.1);
+                  begins = (g.0, subst (GoesOn (at_level l)) (sym (append_assoc first.used others.before g.0)) g.1);
                 }
           ]
       | inr s ↦
@@ -362,24 +280,25 @@ level_stuck n all opened l ts f enough ended h =
             parts = u.parts;
             local = λ m us le. level_last n m opened l (u.before ++ u.stop ∷ us) (Err f) le s.0 (λ j lj. u.local j us lj);
             fault = u.fault;
-            begins = (u.begins.0, subst (λ (r : Rule). GoesOn r (u.before ++ u.begins.0)) (sym (unary_is l s.0)) u.begins.1);
+            begins = (u.begins.0, subst (λ (m : Level). GoesOn (at_level m) (u.before ++ u.begins.0)) (sym (unary_is l s.0)) u.begins.1);
           }
     ]
 
 pub more_stuck : (n : ℕ) → AllStuck n → (opened : Option ℕ) (l inner : Level) (left : Expr) (ts : List Token) (f : ExprFault) → tighter l ≡ Some inner → 16 * length ts ≤ suc n → Ended ts → more_at (suc n) opened l inner left ts ≡ Err f
-    → StuckBehind (λ k us. more_at k opened l inner left us) (suc n) (begun l) (rule_of l) left opened ts f
+    → StuckBehind (λ k us. more_at k opened l inner left us) (suc n) (at_level (left_of l inner)) (at_level l) left opened ts f
 unfolding more_at
 more_stuck n all opened l inner left ts f operands enough ended h =
     elim (if_some_is (operator_of l (first_kind ts)) (λ (o : Op). level_at n opened inner (drop 1 ts) >>= λ (y : Pair). cond (repeats l) (more_at n opened l inner (e.Binary o left y.0) y.1) (Ok (e.Binary o left y.0, y.1))) (Ok (left, ts)) (Err f) h) [
       | inl s ↦
           let o = s.0 in
-          let m = operator_mark l (first_kind ts) o s.1 in
-          let mk : Token = mark_at m.0 (place ts) in
+          let kind : TokenKind = first_kind ts in
+          let mk : Token = token kind (place ts) in
           let rest = drop 1 ts in
-          let front : ts ≡ mk ∷ rest = first_is ts (kind.Mark m.0) m.1 refl in
+          let inside = operator_inner l kind o s.1 in
+          let front : ts ≡ mk ∷ rest = first_is ts kind refl inside.2 in
           let len : length ts ≡ length rest + 1 = omega (arith, ap length front) in
-          let rest_ended : Ended rest = ended_rest (mk ∷ rest) (subst Ended front ended) refl in
-          let other = operator_other l m.0 o m.2 in
+          let rest_ended : Ended rest = ended_rest (mk ∷ rest) (subst Ended front ended) inside.1 in
+          let other = operator_no_dot l kind o s.1 in
           let alike : (us : List Token) → Alike ts (mk ∷ us) = λ us. subst (λ (vs : List Token). Alike vs (mk ∷ us)) (sym front) (alike_front mk rest us other) in
           elim (bind_err (level_at n opened inner rest) (λ (y : Pair). cond (repeats l) (more_at n opened l inner (e.Binary o left y.0) y.1) (Ok (e.Binary o left y.0, y.1))) f s.2) [
             | inl d ↦
@@ -391,14 +310,13 @@ more_stuck n all opened l inner left ts f operands enough ended h =
                   after = right.after;
                   parts = front ∙ ap (λ (us : List Token). mk ∷ us) right.parts;
                   alike = λ us. alike (right.before ++ right.stop ∷ us);
-                  local = λ k us le. more_stop n k opened l inner o (mk ∷ (right.before ++ right.stop ∷ us)) left f le m.2 (λ j lj. right.local j us lj);
-                  fault = λ places is. right.fault places is ∙ over_one right.before places (opened_by places (place ts) (kind.Mark m.0)) right.stop (operator_even l m.0 o places (place ts) m.2);
-                  begins = λ vs v. (g.0, (e.Binary o left g.1.0, joins l m.0 o vs (right.before ++ g.0) left g.1.0 (place ts) m.2 v (subst (λ (r : Rule). Sentence r (right.before ++ g.0) g.1.0) (below_is l inner operands) g.1.1)));
+                  local = λ k us le. more_stop n k opened l inner o (mk ∷ (right.before ++ right.stop ∷ us)) left f le s.1 (λ j lj. right.local j us lj);
+                  fault = λ places is. right.fault places is ∙ over_one right.before places (opened_by places (place ts) kind) right.stop (inside.0 places (place ts));
+                  begins = λ vs v. (g.0, (e.Binary o left g.1.0, level_operator l inner kind o vs (right.before ++ g.0) left g.1.0 (place ts) operands s.1 v g.1.1));
                 }
             | inr b ↦
                 let right = (all_found n).level opened inner rest b.0 b.1 in
-                let left_over = left_behind (rule_of inner) rest right.used b.0.1 b.0.0 rest_ended right.parts right.sentence in
-                let operand : Sentence (below l) right.used b.0.0 = subst (λ (r : Rule). Sentence r right.used b.0.0) (below_is l inner operands) right.sentence in
+                let left_over = left_behind (at_level inner) rest right.used b.0.1 b.0.0 rest_ended right.parts right.sentence in
                 let both : Expr = e.Binary o left b.0.0 in
                 let taken : List Token = mk ∷ right.used in
                 let parts : ts ≡ taken ++ b.0.1 = front ∙ ap (λ (us : List Token). mk ∷ us) right.parts in
@@ -411,13 +329,13 @@ more_stuck n all opened l inner left ts f operands enough ended h =
                         after = others.after;
                         parts = parts ∙ ap (λ (us : List Token). taken ++ us) others.parts ∙ sym (append_assoc taken others.before (others.stop ∷ others.after));
                         alike = λ us. alike ((right.used ++ others.before) ++ others.stop ∷ us);
-                        local = λ k us le. ap (more_at k opened l inner left) (append_assoc taken others.before (others.stop ∷ us)) ∙ more_go n k opened l inner o (taken ++ (others.before ++ others.stop ∷ us)) (others.before ++ others.stop ∷ us) left b.0.0 (Err f) le m.2 t.0
+                        local = λ k us le. ap (more_at k opened l inner left) (append_assoc taken others.before (others.stop ∷ us)) ∙ more_go n k opened l inner o (taken ++ (others.before ++ others.stop ∷ us)) (others.before ++ others.stop ∷ us) left b.0.0 (Err f) le s.1 t.0
                             (λ j lj. right.local j (others.before ++ others.stop ∷ us) lj (others.alike us)) (λ j lj. others.local j us lj);
                         fault = λ places is. others.fault places is ∙ over_even right.used others.before places others.stop left_over.even
-                            ∙ over_one (right.used ++ others.before) places (opened_by places (place ts) (kind.Mark m.0)) others.stop (operator_even l m.0 o places (place ts) m.2);
+                            ∙ over_one (right.used ++ others.before) places (opened_by places (place ts) kind) others.stop (inside.0 places (place ts));
                         begins = λ vs v.
-                            let g = others.begins (vs ++ taken) (again l (vs ++ taken) both t.0 (joins l m.0 o vs right.used left b.0.0 (place ts) m.2 v operand)) in
-                            (g.0, subst (GoesOn (rule_of l)) (append_assoc vs taken (others.before ++ g.0) ∙ ap (λ (us : List Token). vs ++ us) (sym (append_assoc taken others.before g.0))) g.1);
+                            let g = others.begins (vs ++ taken) (again l inner (vs ++ taken) both t.0 (level_operator l inner kind o vs right.used left b.0.0 (place ts) operands s.1 v right.sentence)) in
+                            (g.0, subst (GoesOn (at_level l)) (append_assoc vs taken (others.before ++ g.0) ∙ ap (λ (us : List Token). vs ++ us) (sym (append_assoc taken others.before g.0))) g.1);
                       }
                   | inr t ↦ absurd (let g : Ok (both, b.0.1) ≡ Err f = t.1 in cc)
                 ]
@@ -430,11 +348,13 @@ unfolding unary_at
 unary_stuck n all opened ts f enough ended h =
     elim (if_some_is (sign_of (first_kind ts)) (λ (s : Sign). unary_at n opened (drop 1 ts) >>= λ (y : Pair). Ok (signed s y.0, y.1)) (atom_at n opened ts >>= λ (y : Pair). steps_at n opened y.0 y.1) (Err f) h) [
       | inl s ↦
-          let mk : Token = mark_at (mark_of_sign s.0) (place ts) in
+          let kind : TokenKind = first_kind ts in
+          let mk : Token = token kind (place ts) in
           let rest = drop 1 ts in
-          let front : ts ≡ mk ∷ rest = first_is ts (kind.Mark (mark_of_sign s.0)) (sign_mark (first_kind ts) s.0 s.1) refl in
+          let inside = sign_inner kind s.0 s.1 in
+          let front : ts ≡ mk ∷ rest = first_is ts kind refl inside.2 in
           let len : length ts ≡ length rest + 1 = omega (arith, ap length front) in
-          let rest_ended : Ended rest = ended_rest (mk ∷ rest) (subst Ended front ended) refl in
+          let rest_ended : Ended rest = ended_rest (mk ∷ rest) (subst Ended front ended) inside.1 in
           elim (bind_err (unary_at n opened rest) (λ (y : Pair). Ok (signed s.0 y.0, y.1)) f s.2) [
             | inl d ↦
                 let inner = all.unary opened rest f (omega (arith, len, enough)) rest_ended d in
@@ -444,9 +364,9 @@ unary_stuck n all opened ts f enough ended h =
                   stop = inner.stop;
                   after = inner.after;
                   parts = front ∙ ap (λ (us : List Token). mk ∷ us) inner.parts;
-                  local = λ k us le. unary_sign_stop n k opened s.0 (mk ∷ (inner.before ++ inner.stop ∷ us)) f le (sign_again s.0) (λ j lj. inner.local j us lj);
-                  fault = λ places is. inner.fault places is ∙ over_one inner.before places (opened_by places (place ts) (kind.Mark (mark_of_sign s.0))) inner.stop (sign_even s.0 places (place ts));
-                  begins = (g.0, (signed s.0 g.1.0, sign_joins s.0 (inner.before ++ g.0) g.1.0 (place ts) g.1.1));
+                  local = λ k us le. unary_sign_stop n k opened s.0 (mk ∷ (inner.before ++ inner.stop ∷ us)) f le s.1 (λ j lj. inner.local j us lj);
+                  fault = λ places is. inner.fault places is ∙ over_one inner.before places (opened_by places (place ts) kind) inner.stop (inside.0 places (place ts));
+                  begins = (g.0, (signed s.0 g.1.0, unary_signed kind s.0 (inner.before ++ g.0) g.1.0 (place ts) s.1 g.1.1));
                 }
             | inr b ↦ absurd (let g : Ok (signed s.0 b.0.0, b.0.1) ≡ Err f = b.2 in cc)
           ]

@@ -1,10 +1,11 @@
 -- The grammar of expressions, a rule a case. It is this project's own, after Ruby's operators.
-use Rattle.std.specs.Prelude.{◌≡◌, ℕ, ℤ, Bool, true, false, not, List, [], ◌∷◌, ◌++◌, codes}
+use Rattle.std.specs.Prelude.{◌≡◌, ℕ, Bool, true, false, not, List, [], ◌∷◌, ◌++◌, Some}
 use Rattle.doll_expr.specs.declared.expr.Expr.{Expr}
 use Rattle.doll_expr.specs.declared.expr.Expr.TheVariants as e
-use Rattle.doll_expr.specs.declared.expr.Query.{Query}
-use Rattle.doll_expr.specs.declared.expr.Query.TheVariants as query
-use Rattle.doll_expr.specs.declared.expr.Op.TheVariants as op
+use Rattle.doll_expr.specs.declared.expr.Op.{Op}
+use Rattle.doll_expr.specs.declared.level.Level.{Level}
+use Rattle.doll_expr.specs.declared.level.Level.TheVariants as level
+use Rattle.doll_expr.specs.declared.level.Sign.{Sign}
 use Rattle.doll_expr.specs.declared.token.Mark.{Mark}
 use Rattle.doll_expr.specs.declared.token.Mark.TheVariants as mark
 use Rattle.doll_text.specs.declared.words.Word.{Word}
@@ -13,6 +14,7 @@ use Rattle.doll_expr.specs.declared.token.Token.{Token}
 use Rattle.doll_expr.specs.declared.token.TokenKind.{TokenKind}
 use Rattle.doll_expr.specs.declared.token.TokenKind.TheVariants as kind
 use Rattle.doll_expr.specs.Tokens.{is_word, token, tokens_of}
+use Rattle.doll_expr.specs.Levels.{tighter, left_of, operator_of, sign_of, signed, literal, step_of}
 
 -- a mark as a token
 abbrev pub mark_at : Mark → ℕ → Token
@@ -22,61 +24,35 @@ mark_at m at = token (kind.Mark m) at
 abbrev pub word_at : Word → ℕ → Token
 word_at w at = token (kind.Word w) at
 
--- the rules, from the loosest to the tightest
+-- the rules: those of the levels of operators, an operand with its steps, and an operand by itself
 pub data Rule : Type 0 where
-  expr : Rule
-  and : Rule
-  eq : Rule
-  cmp : Rule
-  sum : Rule
-  prod : Rule
-  unary : Rule
+  at_level : Level → Rule
   postfix : Rule
   atom : Rule
 
--- These tokens, wherever they stand, are a sentence of the rule, and this is its tree.
+-- a whole expression
+abbrev pub expr : Rule
+expr = at_level level.Or
+
+-- what stands between operators
+abbrev pub unary : Rule
+unary = at_level level.Unary
+
+-- These tokens, wherever they stand, are a sentence of the rule, and this is its tree. The tables of the levels say how tightly operators bind.
 pub data Sentence : Rule → List Token → Expr → Type 0 where
-  -- expr = and { "||" and }, grouped to the left
-  expr_one : (ts : List Token) (a : Expr) → Sentence and ts a → Sentence expr ts a
-  expr_or : (ts us : List Token) (a b : Expr) (at : ℕ) → Sentence expr ts a → Sentence and us b → Sentence expr (ts ++ mark_at mark.Or at ∷ us) (e.Binary op.Or a b)
-  -- and = eq { "&&" eq }, grouped to the left
-  and_one : (ts : List Token) (a : Expr) → Sentence eq ts a → Sentence and ts a
-  and_and : (ts us : List Token) (a b : Expr) (at : ℕ) → Sentence and ts a → Sentence eq us b → Sentence and (ts ++ mark_at mark.And at ∷ us) (e.Binary op.And a b)
-  -- eq = cmp [ ("==" | "!=") cmp ]
-  eq_one : (ts : List Token) (a : Expr) → Sentence cmp ts a → Sentence eq ts a
-  eq_equal : (ts us : List Token) (a b : Expr) (at : ℕ) → Sentence cmp ts a → Sentence cmp us b → Sentence eq (ts ++ mark_at mark.Equal at ∷ us) (e.Binary op.Eq a b)
-  eq_not_equal : (ts us : List Token) (a b : Expr) (at : ℕ) → Sentence cmp ts a → Sentence cmp us b → Sentence eq (ts ++ mark_at mark.NotEqual at ∷ us) (e.Binary op.Ne a b)
-  -- cmp = sum [ ("<" | "<=" | ">" | ">=") sum ]
-  cmp_one : (ts : List Token) (a : Expr) → Sentence sum ts a → Sentence cmp ts a
-  cmp_less : (ts us : List Token) (a b : Expr) (at : ℕ) → Sentence sum ts a → Sentence sum us b → Sentence cmp (ts ++ mark_at mark.Less at ∷ us) (e.Binary op.Lt a b)
-  cmp_less_or_equal : (ts us : List Token) (a b : Expr) (at : ℕ) → Sentence sum ts a → Sentence sum us b → Sentence cmp (ts ++ mark_at mark.LessOrEqual at ∷ us) (e.Binary op.Le a b)
-  cmp_greater : (ts us : List Token) (a b : Expr) (at : ℕ) → Sentence sum ts a → Sentence sum us b → Sentence cmp (ts ++ mark_at mark.Greater at ∷ us) (e.Binary op.Gt a b)
-  cmp_greater_or_equal : (ts us : List Token) (a b : Expr) (at : ℕ) → Sentence sum ts a → Sentence sum us b → Sentence cmp (ts ++ mark_at mark.GreaterOrEqual at ∷ us) (e.Binary op.Ge a b)
-  -- sum = prod { ("+" | "-") prod }, grouped to the left
-  sum_one : (ts : List Token) (a : Expr) → Sentence prod ts a → Sentence sum ts a
-  sum_plus : (ts us : List Token) (a b : Expr) (at : ℕ) → Sentence sum ts a → Sentence prod us b → Sentence sum (ts ++ mark_at mark.Plus at ∷ us) (e.Binary op.Add a b)
-  sum_minus : (ts us : List Token) (a b : Expr) (at : ℕ) → Sentence sum ts a → Sentence prod us b → Sentence sum (ts ++ mark_at mark.Minus at ∷ us) (e.Binary op.Sub a b)
-  -- prod = unary { "*" unary }, grouped to the left
-  prod_one : (ts : List Token) (a : Expr) → Sentence unary ts a → Sentence prod ts a
-  prod_times : (ts us : List Token) (a b : Expr) (at : ℕ) → Sentence prod ts a → Sentence unary us b → Sentence prod (ts ++ mark_at mark.Times at ∷ us) (e.Binary op.Mul a b)
+  -- or = and { "||" and }; and = equality { "&&" equality }; equality = order [ ("==" | "!=") order ]; order = sum [ ("<" | "<=" | ">" | ">=") sum ];
+  -- sum = product { ("+" | "-") product }; product = unary { "*" unary }; all grouped to the left
+  level_one : (l inner : Level) (ts : List Token) (a : Expr) → tighter l ≡ Some inner → Sentence (at_level inner) ts a → Sentence (at_level l) ts a
+  level_operator : (l inner : Level) (k : TokenKind) (o : Op) (ts us : List Token) (a b : Expr) (at : ℕ) → tighter l ≡ Some inner → operator_of l k ≡ Some o
+      → Sentence (at_level (left_of l inner)) ts a → Sentence (at_level inner) us b → Sentence (at_level l) (ts ++ token k at ∷ us) (e.Binary o a b)
   -- unary = "!" unary | "-" unary | postfix
   unary_one : (ts : List Token) (a : Expr) → Sentence postfix ts a → Sentence unary ts a
-  unary_not : (ts : List Token) (a : Expr) (at : ℕ) → Sentence unary ts a → Sentence unary (mark_at mark.Not at ∷ ts) (e.Not a)
-  unary_minus : (ts : List Token) (a : Expr) (at : ℕ) → Sentence unary ts a → Sentence unary (mark_at mark.Minus at ∷ ts) (e.Neg a)
+  unary_signed : (k : TokenKind) (s : Sign) (ts : List Token) (a : Expr) (at : ℕ) → sign_of k ≡ Some s → Sentence unary ts a → Sentence unary (token k at ∷ ts) (signed s a)
   -- postfix = atom { "." ( name | "id" | "updated_at" | "size" | "empty?" | "any?" | "nil?" ) }
   postfix_one : (ts : List Token) (a : Expr) → Sentence atom ts a → Sentence postfix ts a
-  postfix_name : (ts : List Token) (a : Expr) (name : List ℕ) (dot at : ℕ) → Sentence postfix ts a → Sentence postfix (ts ++ mark_at mark.Dot dot ∷ token (kind.Name name) at ∷ []) (e.Step a name)
-  postfix_id : (ts : List Token) (a : Expr) (dot at : ℕ) → Sentence postfix ts a → Sentence postfix (ts ++ mark_at mark.Dot dot ∷ word_at word.Id at ∷ []) (e.Step a (codes "id"))
-  postfix_updated_at : (ts : List Token) (a : Expr) (dot at : ℕ) → Sentence postfix ts a → Sentence postfix (ts ++ mark_at mark.Dot dot ∷ word_at word.UpdatedAt at ∷ []) (e.Step a (codes "updated_at"))
-  postfix_size : (ts : List Token) (a : Expr) (dot at : ℕ) → Sentence postfix ts a → Sentence postfix (ts ++ mark_at mark.Dot dot ∷ word_at word.Size at ∷ []) (e.Ask a query.Size)
-  postfix_ask : (ts : List Token) (a : Expr) (q : Query) (dot at : ℕ) → Sentence postfix ts a → Sentence postfix (ts ++ mark_at mark.Dot dot ∷ token (kind.Ask q) at ∷ []) (e.Ask a q)
+  postfix_step : (k : TokenKind) (ts : List Token) (a b : Expr) (dot at : ℕ) → step_of a k ≡ Some b → Sentence postfix ts a → Sentence postfix (ts ++ mark_at mark.Dot dot ∷ token k at ∷ []) b
   -- atom = number | text | "nil" | "true" | "false" | name | "(" expr ")"
-  atom_number : (n : ℤ) (at : ℕ) → Sentence atom (token (kind.Number n) at ∷ []) (e.Int n)
-  atom_text : (text : List ℕ) (at : ℕ) → Sentence atom (token (kind.Text text) at ∷ []) (e.Text text)
-  atom_nil : (at : ℕ) → Sentence atom (word_at word.Nil at ∷ []) e.Nil
-  atom_true : (at : ℕ) → Sentence atom (word_at word.True at ∷ []) e.True
-  atom_false : (at : ℕ) → Sentence atom (word_at word.False at ∷ []) e.False
-  atom_name : (name : List ℕ) (at : ℕ) → Sentence atom (token (kind.Name name) at ∷ []) (e.Var name)
+  atom_token : (k : TokenKind) (a : Expr) (at : ℕ) → literal k ≡ Some a → Sentence atom (token k at ∷ []) a
   atom_parentheses : (ts : List Token) (a : Expr) (opened closed : ℕ) → Sentence expr ts a → Sentence atom (mark_at mark.Open opened ∷ ts ++ mark_at mark.Close closed ∷ []) a
 
 -- These tokens are an expression with this tree, and then the end.

@@ -1,4 +1,5 @@
 pub mod Tokens
+pub mod Levels
 pub mod Grammar
 pub mod Reading
 pub mod Faults

@@ -1,7 +1,7 @@
 //! The levels of the grammar, and the operators of each.
 
 ghost use Rattle.std.specs.Prelude.{◌≡◌};
-ghost use Rattle.doll_expr.specs.Reading as spec;
+ghost use Rattle.doll_expr.specs.Levels as spec;
 
 use crate::expr::Op;
 use crate::token::Mark;

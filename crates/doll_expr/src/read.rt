@@ -7,6 +7,7 @@ ghost use Rattle.doll_text.specs.Gives.{Gives, GivesExactly};
 ghost use Rattle.doll_expr.specs.Faults.{Faults};
 ghost use Rattle.doll_expr.specs.Grammar as grammar;
 ghost use Rattle.doll_expr.specs.Grammar.{AreExpr, BeginsExpr, Sentence, ends_expr};
+ghost use Rattle.doll_expr.specs.Levels as table;
 ghost use Rattle.doll_expr.specs.Reading as spec;
 ghost use Rattle.doll_expr.specs.Reading.{Reads};
 ghost use Rattle.doll_expr.specs.Tokens.{Ended, is_mark, is_word};
@@ -240,7 +241,7 @@ fn binary(alloc: Global, op: Op, left: Expr, right: Expr) -> Result<Expr, Memory
 }
 
 fn signed(alloc: Global, sign: Sign, of: Expr) -> Result<Expr, Memory>
-    ensures { IfOk result (λ e. e ≡ spec.signed sign of) }
+    ensures { IfOk result (λ e. e ≡ table.signed sign of) }
 {
     let of = Boxed::new(alloc, of)?;
     match sign {
@@ -251,7 +252,7 @@ fn signed(alloc: Global, sign: Sign, of: Expr) -> Result<Expr, Memory>
 
 /// The expression that the first token is by itself.
 fn literal(alloc: Global, tokens: &[Token]) -> Result<Option<Expr>, Memory>
-    ensures { IfOk result (λ e. e ≡ spec.literal (spec.first_kind tokens.now)) }
+    ensures { IfOk result (λ e. e ≡ table.literal (spec.first_kind tokens.now)) }
 {
     let [token, ..] = tokens else {
         return Ok(None);
@@ -269,7 +270,7 @@ fn literal(alloc: Global, tokens: &[Token]) -> Result<Option<Expr>, Memory>
 
 /// What the first token, which stands after a dot, makes of the expression before the dot.
 fn step(alloc: Global, of: Expr, tokens: &[Token]) -> Result<Option<Expr>, Memory>
-    ensures { IfOk result (λ e. e ≡ spec.step_of of (spec.first_kind tokens.now)) }
+    ensures { IfOk result (λ e. e ≡ table.step_of of (spec.first_kind tokens.now)) }
 {
     let [token, ..] = tokens else {
         return Ok(None);
@@ -319,7 +320,7 @@ pub fn rest_of(tokens: &[Token]) -> &[Token]
 }
 
 fn operator(level: Level, tokens: &[Token]) -> Option<Op>
-    ensures { result ≡ spec.operator_of level (spec.first_kind tokens.now) }
+    ensures { result ≡ table.operator_of level (spec.first_kind tokens.now) }
 {
     let [token, ..] = tokens else {
         return None;
@@ -331,7 +332,7 @@ fn operator(level: Level, tokens: &[Token]) -> Option<Op>
 }
 
 fn sign(tokens: &[Token]) -> Option<Sign>
-    ensures { result ≡ spec.sign_of (spec.first_kind tokens.now) }
+    ensures { result ≡ table.sign_of (spec.first_kind tokens.now) }
 {
     let [token, ..] = tokens else {
         return None;
