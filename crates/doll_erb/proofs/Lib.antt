@@ -2,6 +2,8 @@ pub mod Places
 pub mod Cuts
 pub mod Expressions
 pub mod Items
+pub mod KeyParts
+pub mod AllItems
 pub mod Shapes
 pub mod Tags
 pub mod TagFaults

@@ -13,7 +13,9 @@ use Rattle.doll_expr.proofs.Ended.{Ended, ended_rest, ended_behind, some_left}
 use Rattle.doll_expr.proofs.Stuck.{agrees_at}
 use Rattle.doll_erb.specs.Shapes.{Fixed, fixed_kind, is_fixed, Item, Said, Front, Stands, item_at, Shape, Says, reads, HasTokens}
 use Rattle.doll_erb.proofs.Expressions.{end, EndsValue}
-use Rattle.doll_erb.proofs.Items.{Follows, IsEven, Fits, fixed_self, fixed_first, fixed_plain, first_same, item_taken, item_stuck, item_only, some_item, Opens, item_begins}
+use Rattle.doll_erb.proofs.Items.{Follows, IsEven, fixed_self, fixed_first, fixed_plain}
+use Rattle.doll_erb.proofs.KeyParts.{first_same}
+use Rattle.doll_erb.proofs.AllItems.{Fits, item_taken, item_stuck, item_only, some_item, Opens, item_begins}
 
 -- ---- which shapes are told apart by their next token
 

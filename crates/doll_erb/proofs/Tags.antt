@@ -20,7 +20,7 @@ use Rattle.doll_erb.specs.declared.piece.TagKind.TheVariants as tag
 use Rattle.doll_erb.specs.Shapes.{the_mark, the_word, is_fixed, Shape, Says, reads, IsFirstFault}
 use Rattle.doll_erb.specs.Tags.{keyed, closed, parts, listed_key, cache, each, run, locals, cached, named_item, options, collected, rendered, write, raw, role_of, ComesTo, IsTag, HasFault, IsTagFault, TagsAreSentences}
 use Rattle.doll_erb.proofs.Expressions.{end, EndsValue}
-use Rattle.doll_erb.proofs.Items.{own_fixed}
+use Rattle.doll_erb.proofs.AllItems.{own_fixed}
 use Rattle.doll_erb.proofs.Shapes.{Starts, Sound, sentence_read, Halts, read_law}
 
 -- ---- keys and blocks
