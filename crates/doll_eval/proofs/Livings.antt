@@ -1,6 +1,6 @@
 -- What an expression gives names only living records, where its variables do.
-use Rattle.std.proofs.Common.{◌≡◌, ℕ, ◌<◌, ◌-◌, suc, zero, Bool, true, false, not, cond, ◌||◌, List, [], ◌∷◌, ◌++◌, map, filter, length, get_or, Option, Some, None, IsSome, All, Result, Ok, Err, IfOk, reverse, find, bytes_eq, ℤ, pos, neg_ℤ, ◌+ℤ◌, ◌-ℤ◌, ◌*ℤ◌, arith, sym, ◌∙◌, subst, refl}
-use Rattle.std.specs.Prelude.{◌==◌, slice_get}
+use Rattle.std.proofs.Common.{◌≡◌, ℕ, ◌<◌, ◌-◌, suc, zero, Bool, true, false, cond, ◌||◌, List, [], ◌∷◌, ◌++◌, map, filter, length, get_or, Option, Some, None, IsSome, All, Result, Ok, Err, IfOk, reverse, find, bytes_eq, ℤ, pos, arith, sym, ◌∙◌, subst, refl}
+use Rattle.std.specs.Prelude.{slice_get}
 use Rattle.std.specs.List.{list_any}
 use Rattle.std.specs.Option.{option_map_or}
 use Rattle.std.specs.Ordering.{nat_cmp, eq_by_cmp}
@@ -8,10 +8,6 @@ use Rattle.std.specs.FinMap as finite
 use Rattle.std.proofs.lemmas.List.{get_or-reverse, length-reverse}
 use Rattle.std.proofs.lemmas.List.Elements.{All-map, All-filter, All-append, All-cons}
 use Rattle.std.proofs.lemmas.Bool.Decides.{nat_tests}
-use Rattle.doll_expr.specs.declared.expr.Op.{Op}
-use Rattle.doll_expr.specs.declared.expr.Op.TheVariants as op
-use Rattle.doll_expr.specs.declared.expr.Query.{Query}
-use Rattle.doll_expr.specs.declared.expr.Query.TheVariants as query
 use Rattle.doll_schema.specs.declared.value.Value.TheVariants as value
 use Rattle.doll_schema.specs.declared.value.Val.{Val}
 use Rattle.doll_schema.specs.declared.value.Val.TheVariants as val
@@ -25,8 +21,8 @@ use Rattle.doll_table.specs.Tables.{TableMap, row_of, rows_in, parent_of, names_
 use Rattle.doll_table.specs.Fits.{Fits}
 use Rattle.doll_eval.specs.declared.member.Member.{Member}
 use Rattle.doll_eval.specs.declared.member.Member.TheVariants as member
-use Rattle.doll_eval.specs.Operations.{nil, whole, has_64_bits, size_of, asked, negated, operated, truth, added, subtracted, multiplied}
-use Rattle.doll_eval.specs.Values.{member_value, record_step, step, variable}
+use Rattle.doll_eval.specs.Operations.{nil, whole, has_64_bits}
+use Rattle.doll_eval.specs.Values.{member_value, record_step, variable}
 use Rattle.doll_eval.specs.Members.{member_of}
 use Rattle.doll_eval.specs.Living.{IsLiving, AreLiving}
 
@@ -62,46 +58,6 @@ either_lives : {X : Type 0} (table : TableMap) (f : X → Val) (o : Option X) �
 either_lives table f None each = tt
 either_lives table f (Some x) each = each x refl
 
-pub asked_lives : (table : TableMap) (q : Query) (v : Val) → IsLiving table (asked q v)
-asked_lives table query.Size v = either_lives table (λ n. whole (pos n)) (size_of v) (λ n e. whole_lives table (pos n))
-asked_lives table query.Empty v = either_lives table (λ n. truth (n == 0)) (size_of v) (λ n e. tt)
-asked_lives table query.Any v = either_lives table (λ n. truth (not (n == 0))) (size_of v) (λ n e. tt)
-asked_lives table query.IsNil v = tt
-
-pub negated_lives : (table : TableMap) (v : Val) → IsLiving table (negated v)
-negated_lives table (val.Plain value.Nil) = tt
-negated_lives table (val.Plain (value.Bool b)) = tt
-negated_lives table (val.Plain (value.Int n)) = whole_lives table (neg_ℤ n)
-negated_lives table (val.Plain (value.Text t)) = tt
-negated_lives table (val.Record m i) = tt
-negated_lives table (val.List m is) = tt
-
-added_lives : (table : TableMap) (a b : Val) → IsLiving table (added a b)
-added_lives table (val.Plain (value.Int a)) (val.Plain (value.Int b)) = whole_lives table (a +ℤ b)
-added_lives table (val.Plain (value.Text a)) (val.Plain (value.Text b)) = tt
-added_lives table a b = tt
-
-subtracted_lives : (table : TableMap) (a b : Val) → IsLiving table (subtracted a b)
-subtracted_lives table (val.Plain (value.Int a)) (val.Plain (value.Int b)) = whole_lives table (a -ℤ b)
-subtracted_lives table a b = tt
-
-multiplied_lives : (table : TableMap) (a b : Val) → IsLiving table (multiplied a b)
-multiplied_lives table (val.Plain (value.Int a)) (val.Plain (value.Int b)) = whole_lives table (a *ℤ b)
-multiplied_lives table a b = tt
-
-pub operated_lives : (table : TableMap) (o : Op) (a b : Val) → IsLiving table b → IsLiving table (operated o a b)
-operated_lives table op.Or a b h = h
-operated_lives table op.And a b h = h
-operated_lives table op.Eq a b h = tt
-operated_lives table op.Ne a b h = tt
-operated_lives table op.Lt a b h = tt
-operated_lives table op.Le a b h = tt
-operated_lives table op.Gt a b h = tt
-operated_lives table op.Ge a b h = tt
-operated_lives table op.Add a b h = added_lives table a b
-operated_lives table op.Sub a b h = subtracted_lives table a b
-operated_lives table op.Mul a b h = multiplied_lives table a b
-
 member_lives : (schema : Schema) (table : TableMap) (m : Model) (model id : ℕ) (row : Row) (part : Member) → Fits schema table → slice_get schema.models model ≡ Some m → row_of table model id ≡ Some row → IsLiving table (member_value table m model id row part)
 member_lives schema table m model id row (member.Attribute at) fits is lives = either_lives table val.Plain (slice_get row.values at) (λ v e. tt)
 member_lives schema table m model id row (member.Key at) fits is lives = either_lives table (λ key. val.Plain (value.Int (pos key))) (parent_of row at) (λ key e. tt)
@@ -128,10 +84,6 @@ pub ok_lives : {F : Type 0} (table : TableMap) (r : Result Val F) (v : Val) → 
 ok_lives table (Ok x) v e h = subst (IsLiving table) (sym e) h
 ok_lives table (Err f) v e h = tt
 
-pub ok_equal : {F : Type 0} (r : Result Val F) (v w : Val) → IfOk r (λ x. x ≡ v) → v ≡ w → IfOk r (λ x. x ≡ w)
-ok_equal (Ok x) v w e h = e ∙ h
-ok_equal (Err f) v w e h = tt
-
 some_same : {X : Type 0} {x y : X} → Some x ≡ Some y → x ≡ y
 some_same e = cc
 
@@ -153,11 +105,6 @@ pub variable_lives : (table : TableMap) (vars : List (List ℕ × Val)) (name : 
 variable_lives table vars name living =
     either_lives table (λ (b : List ℕ × Val). b.1) (find (λ (b : List ℕ × Val). bytes_eq b.0 name) (reverse vars))
     (λ b e. found_holds (λ (b : List ℕ × Val). IsLiving table b.1) (λ (b : List ℕ × Val). bytes_eq b.0 name) (reverse vars) b (all_reversed (λ (b : List ℕ × Val). IsLiving table b.1) vars living) e)
-
-pub step_lives : (schema : Schema) (table : TableMap) (from : Val) (name : List ℕ) → Fits schema table → IsLiving table (step schema table from name)
-step_lives schema table (val.Plain v) name fits = tt
-step_lives schema table (val.Record model id) name fits = record_step_lives schema table model id name fits
-step_lives schema table (val.List model ids) name fits = tt
 
 -- the same in an equal table
 pub lives_along : (t u : TableMap) (v : Val) → t ≡ u → IsLiving t v → IsLiving u v
