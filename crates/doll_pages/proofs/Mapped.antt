@@ -39,14 +39,14 @@ module _ {A : Type 0} where
       by_test true t = let same : q ≡ bound = same_number q bound t in rw same (let less : ltb bound (suc bound) ≡ true = grind (arith, nat_tests) in rw less refl)
       by_test false t = let same : ltb q bound ≡ ltb q (suc bound) = grind (arith, nat_tests, t) in rw same refl
 
-  found_past : (root : Root A) (q : ℕ) → length root * 32768 ≤ q → found root q ≡ None
-  found_past root q h = ap (option_and_then (λ part. under (under slot) part (path q).1)) (ap (option_and_then (λ value. value)) (slice_get_past root (q / 32768) (omega arith)))
+  found_past : (root : Root A) (q : ℕ) → length root * 16384 ≤ q → found root q ≡ None
+  found_past root q h = ap (option_and_then (λ part. under (under slot) part (path q).1)) (ap (option_and_then (λ value. value)) (slice_get_past root (q / 16384) (omega arith)))
 
   -- what stands under a number in the map of slots in slots
   pub get-map_of : (root : Root A) (q : ℕ) → finite.get (map_of root) q ≡ found root q
-  get-map_of root q = get-map_below (found root) (length root * 32768) q ∙ by_test (ltb q (length root * 32768)) refl
+  get-map_of root q = get-map_below (found root) (length root * 16384) q ∙ by_test (ltb q (length root * 16384)) refl
     where
-      by_test : (b : Bool) → ltb q (length root * 32768) ≡ b → cond b (found root q) None ≡ found root q
+      by_test : (b : Bool) → ltb q (length root * 16384) ≡ b → cond b (found root q) None ≡ found root q
       by_test true t = refl
       by_test false t = sym (found_past root q (grind (arith, nat_tests, t)))
 
@@ -83,12 +83,12 @@ module _ {A B K : Type 0} (look : A → K → Option B) (same : K → Bool) (key
   below_changes None q = under_edited [] q
   below_changes (Some parts) q = under_edited parts q
 
-same_parts : (q id : ℕ) → q / 32768 ≡ id / 32768 → q / 1024 % 32 ≡ id / 1024 % 32 → q / 32 % 32 ≡ id / 32 % 32 → q % 32 ≡ id % 32 → q ≡ id
+same_parts : (q id : ℕ) → q / 16384 ≡ id / 16384 → q / 256 % 64 ≡ id / 256 % 64 → q / 16 % 16 ≡ id / 16 % 16 → q % 16 ≡ id % 16 → q ≡ id
 same_parts q id a b c d = omega arith
 
 -- whether two numbers have the same path
 abbrev alike : ℕ → ℕ → Bool
-alike q id = eqb (q / 32768) (id / 32768) && (eqb (q / 1024 % 32) (id / 1024 % 32) && (eqb (q / 32 % 32) (id / 32 % 32) && eqb (q % 32) (id % 32)))
+alike q id = eqb (q / 16384) (id / 16384) && (eqb (q / 256 % 64) (id / 256 % 64) && (eqb (q / 16 % 16) (id / 16 % 16) && eqb (q % 16) (id % 16)))
 
 same_path : (q id : ℕ) → alike q id ≡ eqb q id
 same_path q id = by_test (eqb q id) refl
@@ -101,34 +101,34 @@ same_path q id = by_test (eqb q id) refl
     all false b c d h = refl
 
     by_test : (b : Bool) → eqb q id ≡ b → alike q id ≡ b
-    by_test true t = rw (same_number q id t, is_same (id / 32768), is_same (id / 1024 % 32), is_same (id / 32 % 32), is_same (id % 32)) refl
+    by_test true t = rw (same_number q id t, is_same (id / 16384), is_same (id / 256 % 64), is_same (id / 16 % 16), is_same (id % 16)) refl
     by_test false t =
-        all (eqb (q / 32768) (id / 32768)) (eqb (q / 1024 % 32) (id / 1024 % 32)) (eqb (q / 32 % 32) (id / 32 % 32)) (eqb (q % 32) (id % 32))
-        (λ a b c d. differ t (same_parts q id (same_number (q / 32768) (id / 32768) a) (same_number (q / 1024 % 32) (id / 1024 % 32) b) (same_number (q / 32 % 32) (id / 32 % 32) c) (same_number (q % 32) (id % 32) d)))
+        all (eqb (q / 16384) (id / 16384)) (eqb (q / 256 % 64) (id / 256 % 64)) (eqb (q / 16 % 16) (id / 16 % 16)) (eqb (q % 16) (id % 16))
+        (λ a b c d. differ t (same_parts q id (same_number (q / 16384) (id / 16384) a) (same_number (q / 256 % 64) (id / 256 % 64) b) (same_number (q / 16 % 16) (id / 16 % 16) c) (same_number (q % 16) (id % 16) d)))
 
 module _ {A : Type 0} (id : ℕ) (f : Option A → Option A) where
   -- the change of the outermost slot that changes what stands under a number
   abbrev pub on_path : Option (List (Option (List (Option (List (Option A)))))) → Option (List (Option (List (Option (List (Option A))))))
-  on_path = below (id / 1024 % 32) (below (id / 32 % 32) (below (id % 32) f))
+  on_path = below (id / 256 % 64) (below (id / 16 % 16) (below (id % 16) f))
 
-  pub found_edited : (root : Root A) (q : ℕ) → found (edited root (id / 32768) on_path) q ≡ cond (eqb q id) (f (found root id)) (found root q)
+  pub found_edited : (root : Root A) (q : ℕ) → found (edited root (id / 16384) on_path) q ≡ cond (eqb q id) (f (found root id)) (found root q)
   found_edited root q =
-      let page = page_changes (id % 32) f in
-      let third = below_changes slot (λ n. eqb n (id % 32)) (id % 32) f (below (id % 32) f) page (id / 32 % 32) in
-      let second = below_changes (under slot) (λ n. eqb n.0 (id / 32 % 32) && eqb n.1 (id % 32)) (id / 32 % 32, id % 32) f (below (id / 32 % 32) (below (id % 32) f)) third (id / 1024 % 32) in
-      under_edited (under (under slot)) (λ n. eqb n.0 (id / 1024 % 32) && (eqb n.1.0 (id / 32 % 32) && eqb n.1.1 (id % 32))) (path id).1 f on_path second (id / 32768) root (path q)
+      let page = page_changes (id % 16) f in
+      let third = below_changes slot (λ n. eqb n (id % 16)) (id % 16) f (below (id % 16) f) page (id / 16 % 16) in
+      let second = below_changes (under slot) (λ n. eqb n.0 (id / 16 % 16) && eqb n.1 (id % 16)) (id / 16 % 16, id % 16) f (below (id / 16 % 16) (below (id % 16) f)) third (id / 256 % 64) in
+      under_edited (under (under slot)) (λ n. eqb n.0 (id / 256 % 64) && (eqb n.1.0 (id / 16 % 16) && eqb n.1.1 (id % 16))) (path id).1 f on_path second (id / 16384) root (path q)
       ∙ ap (λ b. cond b (f (found root id)) (found root q)) (same_path q id)
 
   -- such a change as one of the map
-  pub map_edited : (root : Root A) → map_of (edited root (id / 32768) on_path) ≡ altered (map_of root) id f
+  pub map_edited : (root : Root A) → map_of (edited root (id / 16384) on_path) ≡ altered (map_of root) id f
   map_edited root =
-      finite.same_map nat_cmp_total finite.nat_cmp-IsAntisymmetric (map_of (edited root (id / 32768) on_path)) (altered (map_of root) id f)
-      (λ q. get-map_of (edited root (id / 32768) on_path) q
+      finite.same_map nat_cmp_total finite.nat_cmp-IsAntisymmetric (map_of (edited root (id / 16384) on_path)) (altered (map_of root) id f)
+      (λ q. get-map_of (edited root (id / 16384) on_path) q
       ∙ (found_edited root q
       ∙ sym (get-with_option (map_of root) id (f (finite.get (map_of root) id)) q
       ∙ (ap (λ o. cond (eqb q id) (f o) (finite.get (map_of root) q)) (get-map_of root id) ∙ ap (cond (eqb q id) (f (found root id))) (get-map_of root q)))))
 
-  pub map_changed : (root new : Root A) (map : finite.FinMap nat_cmp A) → map_of root ≡ map → new ≡ edited root (id / 32768) on_path → map_of new ≡ altered map id f
+  pub map_changed : (root new : Root A) (map : finite.FinMap nat_cmp A) → map_of root ≡ map → new ≡ edited root (id / 16384) on_path → map_of new ≡ altered map id f
   map_changed root new map is made = ap map_of made ∙ (map_edited root ∙ ap (λ m. altered m id f) is)
 
 -- what is found on the way to a number
@@ -136,17 +136,17 @@ module _ {A : Type 0} (root : Root A) (map : finite.FinMap nat_cmp A) (id : ℕ)
   got : finite.get map id ≡ found root id
   got = ap (λ m. finite.get m id) (sym is) ∙ get-map_of root id
 
-  pub none_first : None ≡ slot root (id / 32768) → None ≡ finite.get map id
+  pub none_first : None ≡ slot root (id / 16384) → None ≡ finite.get map id
   none_first a = sym (got ∙ ap (option_and_then (λ part. under (under slot) part (path id).1)) (sym a))
 
-  pub none_second : (first : List (Option (List (Option (List (Option A)))))) → Some first ≡ slot root (id / 32768) → None ≡ slot first (id / 1024 % 32) → None ≡ finite.get map id
+  pub none_second : (first : List (Option (List (Option (List (Option A)))))) → Some first ≡ slot root (id / 16384) → None ≡ slot first (id / 256 % 64) → None ≡ finite.get map id
   none_second first a b = sym (got ∙ (ap (option_and_then (λ part. under (under slot) part (path id).1)) (sym a) ∙ ap (option_and_then (λ part. under slot part (path id).1.1)) (sym b)))
 
-  pub none_third : (first : List (Option (List (Option (List (Option A)))))) (second : List (Option (List (Option A)))) → Some first ≡ slot root (id / 32768) → Some second ≡ slot first (id / 1024 % 32) → None ≡ slot second (id / 32 % 32) → None ≡ finite.get map id
-  none_third first second a b d = sym (got ∙ (ap (option_and_then (λ part. under (under slot) part (path id).1)) (sym a) ∙ (ap (option_and_then (λ part. under slot part (path id).1.1)) (sym b) ∙ ap (option_and_then (λ part. slot part (id % 32))) (sym d))))
+  pub none_third : (first : List (Option (List (Option (List (Option A)))))) (second : List (Option (List (Option A)))) → Some first ≡ slot root (id / 16384) → Some second ≡ slot first (id / 256 % 64) → None ≡ slot second (id / 16 % 16) → None ≡ finite.get map id
+  none_third first second a b d = sym (got ∙ (ap (option_and_then (λ part. under (under slot) part (path id).1)) (sym a) ∙ (ap (option_and_then (λ part. under slot part (path id).1.1)) (sym b) ∙ ap (option_and_then (λ part. slot part (id % 16))) (sym d))))
 
-  pub some_page : (first : List (Option (List (Option (List (Option A)))))) (second : List (Option (List (Option A)))) (page : List (Option A)) → Some first ≡ slot root (id / 32768) → Some second ≡ slot first (id / 1024 % 32) → Some page ≡ slot second (id / 32 % 32) → slot page (id % 32) ≡ finite.get map id
-  some_page first second page a b d = sym (got ∙ (ap (option_and_then (λ part. under (under slot) part (path id).1)) (sym a) ∙ (ap (option_and_then (λ part. under slot part (path id).1.1)) (sym b) ∙ ap (option_and_then (λ part. slot part (id % 32))) (sym d))))
+  pub some_page : (first : List (Option (List (Option (List (Option A)))))) (second : List (Option (List (Option A)))) (page : List (Option A)) → Some first ≡ slot root (id / 16384) → Some second ≡ slot first (id / 256 % 64) → Some page ≡ slot second (id / 16 % 16) → slot page (id % 16) ≡ finite.get map id
+  some_page first second page a b d = sym (got ∙ (ap (option_and_then (λ part. under (under slot) part (path id).1)) (sym a) ∙ (ap (option_and_then (λ part. under slot part (path id).1.1)) (sym b) ∙ ap (option_and_then (λ part. slot part (id % 16))) (sym d))))
 
 -- what stands under a key of a map in a slot, once something in that slot changed
 module _ {A : Type 0} (parts : List (Option (finite.FinMap nat_cmp A))) (at key : ℕ) (f : Option A → Option A) where

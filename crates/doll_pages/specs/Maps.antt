@@ -26,9 +26,9 @@ under look parts key = option_and_then (λ part. look part key.1) (slot parts ke
 abbrev pub Root : Type 0 → Type 0
 Root A = List (Option (List (Option (List (Option (List (Option A)))))))
 
--- the slots of a number, outermost first; but for the outermost a list has 32
+-- the slots of a number, outermost first; the lists within the outermost have 64, 16 and 16
 abbrev pub path : ℕ → ℕ × (ℕ × (ℕ × ℕ))
-path id = (id / 32768, (id / 1024 % 32, (id / 32 % 32, id % 32)))
+path id = (id / 16384, (id / 256 % 64, (id / 16 % 16, id % 16)))
 
 -- what stands under a number
 abbrev pub found : {A : Type 0} → Root A → ℕ → Option A
@@ -36,4 +36,4 @@ found root id = under (under (under slot)) root (path id)
 
 -- the map of what stands under each number
 abbrev pub map_of : {A : Type 0} → Root A → finite.FinMap nat_cmp A
-map_of root = map_below (found root) (length root * 32768)
+map_of root = map_below (found root) (length root * 16384)

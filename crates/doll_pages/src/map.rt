@@ -1,4 +1,4 @@
-//! A map from 32-bit numbers, in pages of 32 slots that stand in slots in their turn.
+//! A map from 32-bit numbers, in pages of 16 slots that stand in slots in their turn.
 
 ghost use Rattle.std.specs.Prelude.{◌≡◌, IfOk, OnOk, OnErr};
 ghost use Rattle.std.specs.Option.{option_copied};
@@ -11,14 +11,17 @@ use doll_text::{Copied, Memory};
 use std::alloc::Global;
 use std::marker::Model;
 
-/// How many slots a page has.
-const WIDTH: u32 = 32;
+/// How many slots a page has, and each list of pages.
+const WIDTH: u32 = 16;
 
-/// How many numbers lie under a slot of the second list.
-const SECOND: u32 = 1024;
+/// How many slots each list of such lists has.
+const LISTS: u32 = 64;
+
+/// How many numbers lie under a slot of a list of lists.
+const SECOND: u32 = 256;
 
 /// How many numbers lie under a slot of the first list.
-const FIRST: u32 = 32_768;
+const FIRST: u32 = 16_384;
 
 /// A map from 32-bit numbers. A copy has the same pages, and a write copies those on its path that another map has too.
 #[derive(Drop)]
@@ -83,7 +86,7 @@ impl<T: Copied> PageMap<T> {
         let Some(first) = self.root.get((id / FIRST) as usize) else {
             return None;
         };
-        let Some(second) = first.get((id / SECOND % WIDTH) as usize) else {
+        let Some(second) = first.get((id / SECOND % LISTS) as usize) else {
             return None;
         };
         let Some(page) = second.get((id / WIDTH % WIDTH) as usize) else {
@@ -106,7 +109,7 @@ impl<T: Copied> PageMap<T> {
             edit,
         };
         let edit = Below {
-            at: (id / SECOND % WIDTH) as usize,
+            at: (id / SECOND % LISTS) as usize,
             edit,
         };
         self.root.edit(alloc, (id / FIRST) as usize, edit)?;
