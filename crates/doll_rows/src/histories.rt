@@ -1,16 +1,16 @@
 //! Histories and tables, on small sites worked by hand.
 
-ghost use Rattle.std.specs.Prelude.{◌<◌, length, IfOk};
+ghost use Rattle.std.specs.Prelude.{◌≡◌, IfOk};
 ghost use Rattle.doll_journal.specs.Storable.{AreStorable};
 
 use doll_bundle::json_of;
 use doll_commit::Why;
 use doll_journal::{Changes, JournalFault, changes_of};
-use doll_keep::{KeepFault, Keeper, MemKeeper};
+use doll_keep::{Keeper, MemKeeper};
 use doll_records::{LAST_MOMENT, OpenFault, RecordFault, Records, Snapshot};
 use doll_schema::{Row, Schema, Value};
-use doll_table::{Assoc, Looking, Rows, Table};
-use doll_text::{Copied, Items, Memory, Text};
+use doll_table::{Assoc, Table};
+use doll_text::{Copied, Items, Memory};
 use std::alloc::Global;
 use std::test::Fail;
 
@@ -37,6 +37,18 @@ const REFUSED: [u8; 44] = [
 const CREATE: &str = r#"[{"create":"m","values":{}}]"#;
 
 const CREATE_AND_TOUCH: &str = r#"[{"create":"m","values":{}},{"touch":"m","id":2}]"#;
+
+/// A change of each kind, where the m with id 1 lives.
+const ALL_KINDS: &str =
+    r#"[{"create":"m","values":{"t":"A"}},{"update":"m","id":1,"values":{"p_id":2}},{"touch":"m","id":1},{"destroy":"m","id":1}]"#;
+
+/// The commit of these with author 0, serial 1 and moment 7.
+const ALL_KINDS_KEPT: [u8; 96] = [
+    0, 0, 0, 0, 0, 0, 0, 0, 0, 0, 0, 1, 0, 0, 0, 0, 0, 0, 0, 7, 0, 0, 0, 4, 1, 0, 0, 0, 1, b'm', 0,
+    0, 0, 1, 0, 0, 0, 1, b't', 4, 0, 0, 0, 1, b'A', 2, 0, 0, 0, 1, b'm', 0, 0, 0, 1, 0, 0, 0, 1, 0,
+    0, 0, 4, b'p', b'_', b'i', b'd', 3, 0, 0, 0, 0, 0, 0, 0, 2, 4, 0, 0, 0, 1, b'm', 0, 0, 0, 1, 3,
+    0, 0, 0, 1, b'm', 0, 0, 0, 1,
+];
 
 /// Two records, of which the second is under the first; what was made first has another text then.
 const GROWN: &str =
@@ -82,6 +94,15 @@ fn opened(alloc: Global, keeper: MemKeeper) -> Result<Records<MemKeeper>, Fail> 
     )
 }
 
+fn copied<T: Copied>(alloc: Global, value: &T) -> Result<T, Memory>
+    ensures { IfOk result (λ copy. copy ≡ value.now) }
+{
+    value.copy(alloc)
+}
+
+/// What several threads may use.
+fn is_shared<T: Send + Sync>(_value: &T) {}
+
 /// The text of a row, its parent and its moment, as a line.
 fn line(alloc: Global, row: &Row) -> Result<Vec<u8>, Fail> {
     let mut line = Vec::new(alloc);
@@ -126,6 +147,7 @@ fn twenty_commits_come_back(rt: HostRuntime) -> Result<(), Fail> {
     let again = opened(alloc, records.close())?;
     assert_eq!(rt; again.history().len(), 20);
     let snapshot = again.snapshot(alloc).ok().ok_or("no memory")?;
+    is_shared(&snapshot);
     assert_eq!(rt; (snapshot.place, snapshot.moment), (20, 190));
     assert_eq!(rt; lines(alloc, &snapshot)?.as_slice(), before.as_slice());
     Ok(())
@@ -148,12 +170,20 @@ fn what_fails_leaves_the_history(rt: HostRuntime) -> Result<(), Fail> {
     assert_eq!(rt; first.ids.as_slice(), [1].as_slice());
     let told = records.commit(alloc, 0, 1, changes(alloc, CREATE)?, 6);
     assert!(rt; told.err() == Some(RecordFault::Kept));
-    let third = records.commit(alloc, 0, 1, changes(alloc, CREATE)?, 6);
-    let third = third.ok().ok_or("third")?;
-    assert_eq!(rt; (third.place, third.moment), (2, 7));
+    let kinds = changes(alloc, ALL_KINDS)?;
+    let kinds = copied(alloc, &kinds).ok().ok_or("no memory")?;
+    let second = records.commit(alloc, 0, 1, kinds, 6);
+    let second = second.ok().ok_or("second")?;
+    assert_eq!(rt; (second.place, second.moment), (2, 7));
+    assert_eq!(rt; second.ids.as_slice(), [2].as_slice());
+    let last = records.history().last().ok_or("no commit")?;
+    let last = copied(alloc, last).ok().ok_or("no memory")?;
+    assert_eq!(rt; (last.moment, last.changes.len()), (7, 4));
     let mut keeper = records.close();
     let kept = keeper.load(alloc, 0).ok().ok_or("load")?.ok_or("kept")?;
     assert_eq!(rt; kept.as_slice(), CREATED.as_slice());
+    let kept = keeper.load(alloc, 1).ok().ok_or("load")?.ok_or("kept")?;
+    assert_eq!(rt; kept.as_slice(), ALL_KINDS_KEPT.as_slice());
     assert!(rt; keeper.load(alloc, 2).ok().ok_or("load")?.is_none());
     Ok(())
 }
@@ -205,12 +235,6 @@ fn a_refused_opening_hands_the_keeper_back(rt: HostRuntime) -> Result<(), Fail> 
     let told = last.commit(alloc, 0, 0, changes(alloc, CREATE)?, 0).err();
     assert!(rt; told == Some(RecordFault::MomentsEnded { last: LAST_MOMENT }));
     Ok(())
-}
-
-fn copied<T: Copied>(alloc: Global, value: &T) -> Result<T, Memory>
-    ensures { IfOk result (λ copy. copy ≡ value.now) }
-{
-    value.copy(alloc)
 }
 
 /// A record under a parent.
