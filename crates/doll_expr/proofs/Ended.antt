@@ -9,10 +9,11 @@ use Rattle.doll_expr.specs.declared.expr.Query.{Query}
 use Rattle.doll_expr.specs.declared.token.Mark.{Mark}
 use Rattle.doll_text.specs.declared.words.Word.{Word}
 use Rattle.doll_expr.specs.declared.token.Token.{Token}
+use Rattle.doll_expr.specs.declared.token.TokenKind.{TokenKind}
 use Rattle.doll_expr.specs.declared.token.TokenKind.TheVariants as kind
 use Rattle.doll_text.specs.Bytes.{is_lower, is_space, is_word_byte}
 use Rattle.doll_text.specs.Names.{word_of, is_name}
-use Rattle.doll_expr.specs.Tokens.{Front, decimal, question, name_from, closing, quoted, mark_of, number_from, number_at, plain_word, word_from, word_at, name_at, text_of, text_from, text_at, mark_from, front, is_dot, is_last, token, followed, tokens_from, beyond, at_most, tokens_of}
+use Rattle.doll_expr.specs.Tokens.{Front, decimal, question, name_from, closing, quoted, mark_of, number_from, number_at, plain_word, word_from, word_at, name_at, text_of, text_from, text_at, mark_from, front, is_dot, is_last, token, spaces, followed, cut, tokens_from, tokens_of}
 pub use Rattle.doll_expr.specs.Tokens.{Ended}
 use Rattle.doll_expr.specs.Reading.{first_kind, place}
 use Rattle.doll_expr.proofs.Shapes.{Plain}
@@ -111,36 +112,21 @@ front_plain dot at bytes =
     let word : Front = cond (is_lower b) (word_at dot at bytes) named in
     number_or_plain at b bytes word (word_or_plain dot at b bytes named (named_plain at b bytes other (others_plain at b bytes)))
 
-ended_cond : (b : Bool) (x y : List Token) → Ended x → Ended y → Ended (cond b x y)
-ended_cond true x y p q = p
-ended_cond false x y p q = q
-
-followed_ended : (at : ℕ) (others : Bool → ℕ → List Token) (f : Front) → IsPlain f → ((d : Bool) (left : ℕ) → Ended (others d left)) → Ended (followed at others f)
-followed_ended at others (Ok found) p e = ended_cons (token found.0 at) (others (is_dot found.0) (found.1 - 1)) p (e (is_dot found.0) (found.1 - 1))
+followed_ended : (at : ℕ) (others : TokenKind × ℕ → List Token) (f : Front) → IsPlain f → ((found : TokenKind × ℕ) → is_last found.0 ≡ false → Ended (others found)) → Ended (followed at others f)
+followed_ended at others (Ok found) p e = e found p
 followed_ended at others (Err fault) p e = refl
 
-tokens_ended : (dot : Bool) (at left : ℕ) (bytes : List ℕ) → Ended (tokens_from dot at left bytes)
+cut_ended : (dot : Bool) (at : ℕ) (bytes : List ℕ) (others : TokenKind × ℕ → List Token) → ((found : TokenKind × ℕ) → is_last found.0 ≡ false → Ended (others found)) → Ended (cut dot at bytes others)
+cut_ended dot at [] others e = refl
+cut_ended dot at (b ∷ bytes) others e = followed_ended at others (front dot at (b ∷ bytes)) (front_plain dot at (b ∷ bytes)) e
+
+tokens_ended : (room : ℕ) (dot : Bool) (at : ℕ) (bytes : List ℕ) → Ended (tokens_from room dot at bytes)
 unfolding tokens_from
-tokens_ended dot at left [] = refl
-tokens_ended dot at (suc left) (b ∷ bytes) = tokens_ended dot (at + 1) left bytes
-tokens_ended dot at zero (b ∷ bytes) =
-    ended_cond (is_space b) (tokens_from dot (at + 1) 0 bytes) (followed at (λ d left. tokens_from d (at + 1) left bytes) (front dot at (b ∷ bytes))) (tokens_ended dot (at + 1) 0 bytes)
-    (followed_ended at (λ d left. tokens_from d (at + 1) left bytes) (front dot at (b ∷ bytes)) (front_plain dot at (b ∷ bytes)) (λ d left. tokens_ended d (at + 1) left bytes))
-
-beyond_last : (t : Token) → is_last (beyond t).kind ≡ true
-beyond_last t =
-    elim (cases_Bool (is_last t.kind)) [
-      | inl last ↦ ap (λ (b : Bool). is_last (cond b t (token (kind.Fault (TooDeep t.at)) t.at)).kind) last ∙ last
-      | inr other ↦ ap (λ (b : Bool). is_last (cond b t (token (kind.Fault (TooDeep t.at)) t.at)).kind) other
-    ]
-
-most_ended : (n : ℕ) (ts : List Token) → Ended ts → Ended (at_most n ts)
-unfolding at_most
-most_ended n [] e = absurd e
-most_ended zero (t ∷ ts) e = beyond_last t
-most_ended (suc n) (t ∷ []) e = e
-most_ended (suc n) (t ∷ u ∷ ts) e = ended_cons t (at_most n (u ∷ ts)) e.0 (most_ended n (u ∷ ts) e.1)
+tokens_ended zero dot at bytes = cut_ended dot (at + spaces bytes) (drop (spaces bytes) bytes) _ (λ found p. refl)
+tokens_ended (suc room) dot at bytes =
+    cut_ended dot (at + spaces bytes) (drop (spaces bytes) bytes) _
+    (λ found p. ended_cons (token found.0 (at + spaces bytes)) _ p (tokens_ended room (is_dot found.0) (at + spaces bytes + found.1) (drop found.1 (drop (spaces bytes) bytes))))
 
 pub text_ended : (text : List ℕ) → Ended (tokens_of text)
 unfolding tokens_of
-text_ended text = most_ended 200 (tokens_from false 0 0 text) (tokens_ended false 0 0 text)
+text_ended text = tokens_ended 200 false 0 text

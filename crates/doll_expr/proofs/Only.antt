@@ -1,5 +1,5 @@
 -- Each sentence of the grammar is read, with its tree.
-use Rattle.std.proofs.Common.{◌≡◌, ℕ, zero, suc, ◌+◌, ◌-◌, ◌*◌, ◌≤◌, Bool, true, false, cond, List, [], ◌∷◌, ◌++◌, length, Option, Some, None, Ok, refl, sym, ap, subst, ◌∙◌, append_assoc, inl, inr, arith}
+use Rattle.std.proofs.Common.{◌≡◌, ℕ, zero, suc, ◌+◌, ◌-◌, ◌*◌, ◌≤◌, Bool, true, false, cond, List, [], ◌∷◌, ◌++◌, length, drop, Option, Some, None, Ok, Err, refl, sym, ap, subst, ◌∙◌, append_assoc, inl, inr, arith}
 use Rattle.std.proofs.lemmas.Bool.{cases_Bool}
 use Rattle.std.proofs.lemmas.List.{length-append}
 use Rattle.doll_expr.specs.declared.expr.Expr.{Expr}
@@ -14,7 +14,7 @@ use Rattle.doll_text.specs.declared.words.Word.TheVariants as word
 use Rattle.doll_expr.specs.declared.token.Token.{Token}
 use Rattle.doll_expr.specs.declared.token.TokenKind.{TokenKind}
 use Rattle.doll_expr.specs.declared.token.TokenKind.TheVariants as kind
-use Rattle.doll_expr.specs.Tokens.{is_dot, token, tokens_from, at_most, tokens_of}
+use Rattle.doll_expr.specs.Tokens.{Front, is_dot, token, spaces, front, followed, cut, tokens_from, tokens_of}
 use Rattle.doll_expr.specs.Grammar.{is_each, Rule, at_level, expr, unary, postfix, atom, Sentence, AreExpr, IsExpr, OneTree, begins_each, ends_before, ends_expr, mark_at, level_one, level_operator, unary_one, unary_signed, postfix_one, postfix_step, atom_token, atom_parentheses}
 use Rattle.doll_expr.specs.Reading.{first_kind, has_step, close_at, steps_at, level_at, more_at, unary_at, atom_at, enough_fuel, expr_at, whole_of, expr_of, ◌>>=◌, Read}
 use Rattle.doll_expr.specs.Levels.{tighter, repeats, left_of, operator_of, sign_of, signed, literal, step_of}
@@ -312,15 +312,24 @@ pub expr_only : (ts rest : List Token) (a : Expr) → Sentence expr ts a → len
 unfolding expr_at
 expr_only ts rest a s few ends = sentence_reads enough_fuel ts rest a s (omega (arith, enough, few)) ends
 
-few_tokens : (n : ℕ) (ts : List Token) → length (at_most n ts) ≤ n + 1
-unfolding at_most
-few_tokens n [] = omega arith
-few_tokens zero (t ∷ ts) = omega arith
-few_tokens (suc n) (t ∷ ts) = let h = few_tokens n ts in omega (arith, h)
+few_followed : (most at : ℕ) (others : TokenKind × ℕ → List Token) (f : Front) → 1 ≤ most → ((found : TokenKind × ℕ) → length (others found) ≤ most) → length (followed at others f) ≤ most
+few_followed most at others (Ok found) some few = few found
+few_followed most at others (Err fault) some few = omega (arith, some)
+
+few_cut : (most : ℕ) (dot : Bool) (at : ℕ) (bytes : List ℕ) (others : TokenKind × ℕ → List Token) → 1 ≤ most → ((found : TokenKind × ℕ) → length (others found) ≤ most) → length (cut dot at bytes others) ≤ most
+few_cut most dot at [] others some few = omega (arith, some)
+few_cut most dot at (b ∷ bytes) others some few = few_followed most at others (front dot at (b ∷ bytes)) some few
+
+few_tokens : (room : ℕ) (dot : Bool) (at : ℕ) (bytes : List ℕ) → length (tokens_from room dot at bytes) ≤ room + 1
+unfolding tokens_from
+few_tokens zero dot at bytes = few_cut 1 dot (at + spaces bytes) (drop (spaces bytes) bytes) _ (omega arith) (λ found. omega arith)
+few_tokens (suc room) dot at bytes =
+    few_cut (suc room + 1) dot (at + spaces bytes) (drop (spaces bytes) bytes) _ (omega arith)
+    (λ found. let h = few_tokens room (is_dot found.0) (at + spaces bytes + found.1) (drop found.1 (drop (spaces bytes) bytes)) in omega (arith, h))
 
 pub few_tokens_of : (text : List ℕ) → length (tokens_of text) ≤ 201
 unfolding tokens_of
-few_tokens_of text = few_tokens 200 (tokens_from false 0 0 text)
+few_tokens_of text = few_tokens 200 false 0 text
 
 pub whole_only : (tokens : List Token) (a : Expr) → length tokens ≤ 201 → AreExpr tokens a → whole_of tokens ≡ Ok a
 unfolding whole_of

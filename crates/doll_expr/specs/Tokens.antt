@@ -1,7 +1,7 @@
 -- The tokens of a text. All of it is this project's own.
 use Rattle.std.specs.Prelude.{◌≡◌, ℕ, zero, suc, ◌+◌, ◌-◌, ◌*◌, ◌^◌, pos, Bool, true, false, ◌&&◌, ◌||◌, ◌==◌, nat_lt, List, [], ◌∷◌, ◌++◌, length, take, drop, slice_index, Option, Some, None, Result, Ok, Err, if◌then◌else◌, codes}
 use Rattle.std.specs.Char.{is_ascii_digit}
-use Rattle.std.specs.List.{fold, take_while}
+use Rattle.std.specs.List.{fold, prefix_len, take_while}
 use Rattle.std.specs.Option.{option_map, option_or}
 use Rattle.doll_expr.specs.declared.expr.ExprFault.{ExprFault}
 use Rattle.doll_expr.specs.declared.expr.ExprFault.TheVariants.{Unexpected, Unclosed, NumberTooLarge, TooDeep}
@@ -176,19 +176,6 @@ is_dot = is_mark mark.Dot
 abbrev pub token : TokenKind → ℕ → Token
 token kind at = record { kind = kind; at = at }
 
--- The token and those after it, which go by whether it is a dot and by how many bytes of it are left. After a fault nothing is read.
-abbrev pub followed : ℕ → (Bool → ℕ → List Token) → Front → List Token
-followed at others (Ok found) = token found.0 at ∷ others (is_dot found.0) (found.1 - 1)
-followed at others (Err fault) = token (kind.Fault fault) at ∷ []
-
--- All tokens of the bytes, of which the first stands at `at`; `left` of them still belong to the token before.
-unfoldable pub tokens_from : Bool → ℕ → ℕ → List ℕ → List Token
-tokens_from after_dot at left [] = token kind.End at ∷ []
-tokens_from after_dot at (suc left) (b ∷ bytes) = tokens_from after_dot (at + 1) left bytes
-tokens_from after_dot at zero (b ∷ bytes) =
-    if is_space b then tokens_from after_dot (at + 1) 0 bytes
-    else followed at (λ is_after left. tokens_from is_after (at + 1) left bytes) (front after_dot at (b ∷ bytes))
-
 -- what ends a list of tokens
 abbrev pub is_last : TokenKind → Bool
 is_last kind.End = true
@@ -201,16 +188,29 @@ Ended [] = ⊥
 Ended (t ∷ []) = is_last t.kind ≡ true
 Ended (t ∷ u ∷ ts) = (is_last t.kind ≡ false) × Ended (u ∷ ts)
 
--- What stands where no token has room: the end and a fault stay, a token is one too many.
-abbrev pub beyond : Token → Token
-beyond t = if is_last t.kind then t else token (kind.Fault (TooDeep t.at)) t.at
+-- the count of white space at the front
+abbrev pub spaces : List ℕ → ℕ
+spaces bytes = prefix_len is_space bytes
 
--- at most this many tokens beside the last
-unfoldable pub at_most : ℕ → List Token → List Token
-at_most n [] = []
-at_most zero (t ∷ tokens) = beyond t ∷ []
-at_most (suc n) (t ∷ tokens) = t ∷ at_most n tokens
+-- what a token brings, or the fault of the text there, after which nothing is read
+abbrev pub followed : ℕ → (TokenKind × ℕ → List Token) → Front → List Token
+followed at others (Ok found) = others found
+followed at others (Err fault) = token (kind.Fault fault) at ∷ []
+
+-- the end, or what the token at the front brings
+abbrev pub cut : Bool → ℕ → List ℕ → (TokenKind × ℕ → List Token) → List Token
+cut after_dot at [] others = token kind.End at ∷ []
+cut after_dot at (b ∷ bytes) others = followed at others (front after_dot at (b ∷ bytes))
+
+-- The tokens of bytes that begin at `at`, each behind white space, which doesn't count: at most so many, and then the end or the first fault. A
+-- token more is one too many.
+unfoldable pub tokens_from : ℕ → Bool → ℕ → List ℕ → List Token
+tokens_from zero after_dot at bytes =
+    cut after_dot (at + spaces bytes) (drop (spaces bytes) bytes) (λ found. token (kind.Fault (TooDeep (at + spaces bytes))) (at + spaces bytes) ∷ [])
+tokens_from (suc room) after_dot at bytes =
+    cut after_dot (at + spaces bytes) (drop (spaces bytes) bytes)
+    (λ found. token found.0 (at + spaces bytes) ∷ tokens_from room (is_dot found.0) (at + spaces bytes + found.1) (drop found.1 (drop (spaces bytes) bytes)))
 
 -- The tokens of a text, at most 200 of them, and then its end or its first fault.
 unfoldable pub tokens_of : List ℕ → List Token
-tokens_of bytes = at_most 200 (tokens_from false 0 0 bytes)
+tokens_of bytes = tokens_from 200 false 0 bytes

@@ -13,7 +13,7 @@ returns-then-is_empty c =
     let bytes = c.loop-ahead.rest.now in
     let ahead = c.split_at.result.1.now in
     let n = c.prefix_len-spaces.result in
-    let next : Next c.loop-ahead.at n bytes ahead = record { spaces = c.prefix_len-spaces.ensures.value; within = c.prefix_len-spaces.ensures.within; ahead_is = c.split_at.ensures.back } in
+    let next : Next n bytes ahead = record { spaces_are = c.prefix_len-spaces.ensures.value; ahead_is = c.split_at.ensures.back } in
     let empty : length ahead ≡ 0 = first_of (omega arith, search rules, grind (arith, common_steps)) in
     c.in_ok-push.ensures.ok ∙ at_end c.loop-ahead.after_dot c.loop-ahead.at n c.loop-ahead.left bytes ahead c.loop-ahead.tokens (tokens_of c.args.bytes.now) next empty c.loop-ahead.invariant.0
 
@@ -22,7 +22,7 @@ returns-in-Err c =
     let bytes = c.loop-ahead.rest.now in
     let ahead = c.split_at.result.1.now in
     let n = c.prefix_len-spaces.result in
-    let next : Next c.loop-ahead.at n bytes ahead = record { spaces = c.prefix_len-spaces.ensures.value; within = c.prefix_len-spaces.ensures.within; ahead_is = c.split_at.ensures.back } in
+    let next : Next n bytes ahead = record { spaces_are = c.prefix_len-spaces.ensures.value; ahead_is = c.split_at.ensures.back } in
     let some : 0 < length ahead = first_of (omega arith, search rules, grind (arith, common_steps)) in
     let found : front c.loop-ahead.after_dot (c.loop-ahead.at + n) ahead ≡ Err c.in-Err.fault = first_of (search rules, grind (arith, common_steps)) in
     c.in_ok-push-in-Err.ensures.ok ∙ at_fault c.loop-ahead.after_dot c.loop-ahead.at n c.loop-ahead.left bytes ahead c.loop-ahead.tokens (tokens_of c.args.bytes.now) c.in-Err.fault next some found c.loop-ahead.invariant.0
@@ -32,16 +32,18 @@ returns-then-left-eq0 c =
     let bytes = c.loop-ahead.rest.now in
     let ahead = c.split_at.result.1.now in
     let n = c.prefix_len-spaces.result in
-    let next : Next c.loop-ahead.at n bytes ahead = record { spaces = c.prefix_len-spaces.ensures.value; within = c.prefix_len-spaces.ensures.within; ahead_is = c.split_at.ensures.back } in
+    let next : Next n bytes ahead = record { spaces_are = c.prefix_len-spaces.ensures.value; ahead_is = c.split_at.ensures.back } in
     let found : front c.loop-ahead.after_dot (c.loop-ahead.at + n) ahead ≡ Ok (c.in-Ok.found.0, c.in-Ok.found.1) = first_of (search rules, grind (arith, common_steps)) in
-    c.in_ok-push-2.ensures.ok ∙ no_room_left c.loop-ahead.after_dot c.loop-ahead.at n c.in-Ok.found.1 c.loop-ahead.left bytes ahead c.loop-ahead.tokens (tokens_of c.args.bytes.now) c.in-Ok.found.0 next found c.in-Ok.ensures.within.0 c.in-Ok.ensures.within.1 c.in-Ok.ensures.plain c.if-left-eq0.true c.loop-ahead.invariant.0
+    let some : 0 < length ahead = first_of (omega arith, search rules, grind (arith, common_steps)) in
+    c.in_ok-push-2.ensures.ok ∙ no_room_left c.loop-ahead.after_dot c.loop-ahead.at n c.loop-ahead.left bytes ahead c.loop-ahead.tokens (tokens_of c.args.bytes.now) (c.in-Ok.found.0, c.in-Ok.found.1) next some found c.if-left-eq0.true c.loop-ahead.invariant.0
 
 pub loop-ahead-preserved : goal.loop-ahead-preserved
 loop-ahead-preserved c =
     let bytes = c.loop-ahead.rest.now in
     let ahead = c.split_at.result.1.now in
     let n = c.prefix_len-spaces.result in
-    let next : Next c.loop-ahead.at n bytes ahead = record { spaces = c.prefix_len-spaces.ensures.value; within = c.prefix_len-spaces.ensures.within; ahead_is = c.split_at.ensures.back } in
+    let next : Next n bytes ahead = record { spaces_are = c.prefix_len-spaces.ensures.value; ahead_is = c.split_at.ensures.back } in
     let found : front c.loop-ahead.after_dot (c.loop-ahead.at + n) ahead ≡ Ok (c.in-Ok.found.0, c.in-Ok.found.1) = first_of (search rules, grind (arith, common_steps)) in
-    let more = one_more c.loop-ahead.after_dot c.loop-ahead.at n c.in-Ok.found.1 c.loop-ahead.left bytes ahead c.loop-ahead.tokens (tokens_of c.args.bytes.now) c.in-Ok.found.0 next found c.in-Ok.ensures.within.0 c.in-Ok.ensures.within.1 (omega arith) c.loop-ahead.invariant.0 in
+    let some : 0 < length ahead = first_of (omega arith, search rules, grind (arith, common_steps)) in
+    let more = one_more c.loop-ahead.after_dot c.loop-ahead.at n c.loop-ahead.left bytes ahead c.loop-ahead.tokens (tokens_of c.args.bytes.now) (c.in-Ok.found.0, c.in-Ok.found.1) next some found (omega arith) c.loop-ahead.invariant.0 in
     (rw (c.in_ok-push-3.ensures.ok, c.is_dot-after_dot.ensures, c.split_at-in-loop-ahead.ensures.back) more, omega (arith, ap length next.ahead_is, length-drop n bytes, ap length c.split_at-in-loop-ahead.ensures.back, length-drop c.in-Ok.found.1 ahead, c.in-Ok.ensures.within.1, c.loop-ahead.invariant.1))

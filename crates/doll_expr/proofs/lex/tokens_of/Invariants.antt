@@ -1,10 +1,10 @@
 use Rattle.std.proofs.Common.{◌≡◌, ◌+◌, ◌++◌, length}
-use Rattle.doll_expr.specs.Tokens.{at_most, tokens_from, tokens_of}
+use Rattle.doll_expr.specs.Tokens.{tokens_from, tokens_of}
 use Rattle.doll_expr.proofs.lex.tokens_of.Given as goal
 
 abbrev pub invariant-loop-ahead : goal.invariant-loop-ahead
 invariant-loop-ahead l =
-    (l.tokens ++ at_most l.left (tokens_from l.after_dot l.at 0 l.rest) ≡ tokens_of l.bytes) × (l.at + length l.rest ≡ length l.bytes)
+    (l.tokens ++ tokens_from l.left l.after_dot l.at l.rest ≡ tokens_of l.bytes) × (l.at + length l.rest ≡ length l.bytes)
 
 abbrev pub decreases-loop-ahead : goal.decreases-loop-ahead
 decreases-loop-ahead l = l.left
