@@ -7,6 +7,7 @@ use Rattle.doll_expr.specs.declared.expr.ExprFault.{ExprFault}
 use Rattle.doll_expr.specs.declared.expr.ExprFault.TheVariants.{TooDeep, NumberTooLarge, Unexpected}
 use Rattle.doll_expr.specs.declared.expr.Query.{Query}
 use Rattle.doll_expr.specs.declared.token.Mark.{Mark}
+use Rattle.doll_expr.specs.declared.signs.TheConstants.{AT_SIGN, SINGLE_QUOTE, DOUBLE_QUOTE}
 use Rattle.doll_text.specs.declared.words.Word.{Word}
 use Rattle.doll_expr.specs.declared.token.Token.{Token}
 use Rattle.doll_expr.specs.declared.token.TokenKind.{TokenKind}
@@ -91,11 +92,11 @@ mark_plain : (at : ℕ) (o : Option (Mark × ℕ)) → IsPlain (mark_from at o)
 mark_plain at (Some found) = refl
 mark_plain at None = tt
 
-others_plain : (at b : ℕ) (bytes : List ℕ) → IsPlain (cond (b == 34 || b == 39) (text_at b at (drop 1 bytes)) (mark_from at (mark_of bytes)))
-others_plain at b bytes = plain_cond (b == 34 || b == 39) (text_at b at (drop 1 bytes)) (mark_from at (mark_of bytes)) (text_plain b at (drop 1 bytes)) (mark_plain at (mark_of bytes))
+others_plain : (at b : ℕ) (bytes : List ℕ) → IsPlain (cond (b == DOUBLE_QUOTE || b == SINGLE_QUOTE) (text_at b at (drop 1 bytes)) (mark_from at (mark_of bytes)))
+others_plain at b bytes = plain_cond (b == DOUBLE_QUOTE || b == SINGLE_QUOTE) (text_at b at (drop 1 bytes)) (mark_from at (mark_of bytes)) (text_plain b at (drop 1 bytes)) (mark_plain at (mark_of bytes))
 
-named_plain : (at b : ℕ) (bytes : List ℕ) (other : Front) → IsPlain other → IsPlain (cond (b == 64) (name_at at (drop 1 bytes)) other)
-named_plain at b bytes other h = plain_cond (b == 64) (name_at at (drop 1 bytes)) other (name_plain at (drop 1 bytes)) h
+named_plain : (at b : ℕ) (bytes : List ℕ) (other : Front) → IsPlain other → IsPlain (cond (b == AT_SIGN) (name_at at (drop 1 bytes)) other)
+named_plain at b bytes other h = plain_cond (b == AT_SIGN) (name_at at (drop 1 bytes)) other (name_plain at (drop 1 bytes)) h
 
 word_or_plain : (dot : Bool) (at b : ℕ) (bytes : List ℕ) (other : Front) → IsPlain other → IsPlain (cond (is_lower b) (word_at dot at bytes) other)
 word_or_plain dot at b bytes other h = plain_cond (is_lower b) (word_at dot at bytes) other (word_plain dot at bytes) h
@@ -107,8 +108,8 @@ front_plain : (dot : Bool) (at : ℕ) (bytes : List ℕ) → IsPlain (front dot 
 unfolding front
 front_plain dot at bytes =
     let b = get_or bytes 0 0 in
-    let other : Front = cond (b == 34 || b == 39) (text_at b at (drop 1 bytes)) (mark_from at (mark_of bytes)) in
-    let named : Front = cond (b == 64) (name_at at (drop 1 bytes)) other in
+    let other : Front = cond (b == DOUBLE_QUOTE || b == SINGLE_QUOTE) (text_at b at (drop 1 bytes)) (mark_from at (mark_of bytes)) in
+    let named : Front = cond (b == AT_SIGN) (name_at at (drop 1 bytes)) other in
     let word : Front = cond (is_lower b) (word_at dot at bytes) named in
     number_or_plain at b bytes word (word_or_plain dot at b bytes named (named_plain at b bytes other (others_plain at b bytes)))
 

@@ -1,5 +1,6 @@
 pub mod Numbers
 pub mod Lexed
+pub mod Stands
 pub mod Rules
 pub mod Found
 pub mod Only

@@ -1,5 +1,5 @@
 -- The tokens of a text. All of it is this project's own.
-use Rattle.std.specs.Prelude.{◌≡◌, ℕ, zero, suc, ◌+◌, ◌-◌, ◌*◌, ◌^◌, pos, Bool, true, false, ◌&&◌, ◌||◌, ◌==◌, nat_lt, List, [], ◌∷◌, ◌++◌, length, take, drop, slice_index, Option, Some, None, Result, Ok, Err, if◌then◌else◌, codes}
+use Rattle.std.specs.Prelude.{◌≡◌, ◌≤◌, ◌<◌, ℕ, zero, suc, ◌+◌, ◌-◌, ◌*◌, ◌^◌, pos, Bool, true, false, ◌&&◌, ◌||◌, ◌==◌, nat_lt, List, [], ◌∷◌, ◌++◌, length, take, drop, slice_index, Option, Some, None, Result, Ok, Err, if◌then◌else◌, codes}
 use Rattle.std.specs.Char.{is_ascii_digit}
 use Rattle.std.specs.List.{fold, prefix_len, take_while}
 use Rattle.std.specs.Option.{option_map, option_or}
@@ -7,6 +7,7 @@ use Rattle.doll_expr.specs.declared.expr.ExprFault.{ExprFault}
 use Rattle.doll_expr.specs.declared.expr.ExprFault.TheVariants.{Unexpected, Unclosed, NumberTooLarge, TooDeep}
 use Rattle.doll_expr.specs.declared.expr.Query.{Query}
 use Rattle.doll_expr.specs.declared.expr.Query.TheVariants as query
+use Rattle.doll_expr.specs.declared.signs.TheConstants.{AT_SIGN, QUESTION_MARK, SINGLE_QUOTE, DOUBLE_QUOTE, BACKSLASH, HASH, OPEN_BRACE, NEW_LINE, TAB, LETTER_N, LETTER_T}
 use Rattle.doll_expr.specs.declared.token.Mark.{Mark}
 use Rattle.doll_expr.specs.declared.token.Mark.TheVariants as mark
 use Rattle.doll_text.specs.declared.words.Word.{Word}
@@ -45,7 +46,7 @@ questions = (codes "empty", query.Empty) ∷ (codes "any", query.Any) ∷ (codes
 
 -- the question that these bytes begin with, which only stands directly after a dot
 abbrev pub question : Bool → List ℕ → List ℕ → Option Query
-question after_dot word bytes = if after_dot && slice_index bytes (length word) == 63 then lookup questions word else None
+question after_dot word bytes = if after_dot && slice_index bytes (length word) == QUESTION_MARK then lookup questions word else None
 
 -- a word is one of the grammars' words, or a name, or no token
 abbrev pub plain_word : ℕ → List ℕ → Option Word → Front
@@ -75,7 +76,7 @@ name_at at bytes = name_from at (take_while is_word_byte bytes)
 unfoldable pub closing : ℕ → Bool → ℕ → List ℕ → Option ℕ
 closing quote is_taken at [] = None
 closing quote true at (b ∷ bytes) = closing quote false (at + 1) bytes
-closing quote false at (b ∷ bytes) = if b == quote then Some at else closing quote (b == 92) (at + 1) bytes
+closing quote false at (b ∷ bytes) = if b == quote then Some at else closing quote (b == BACKSLASH) (at + 1) bytes
 
 -- bytes before those that are read, if these have no fault
 abbrev pub with_front : List ℕ → Result (List ℕ) ExprFault → Result (List ℕ) ExprFault
@@ -85,12 +86,14 @@ with_front front (Err fault) = Err fault
 -- In `'` a backslash before a backslash or a `'` is an escape, and before any other byte itself.
 unfoldable pub single_quoted : Bool → List ℕ → List ℕ
 single_quoted is_escape [] = []
-single_quoted true (b ∷ bytes) = if b == 92 || b == 39 then b ∷ single_quoted false bytes else 92 ∷ b ∷ single_quoted false bytes
-single_quoted false (b ∷ bytes) = if b == 92 then single_quoted true bytes else b ∷ single_quoted false bytes
+single_quoted true (b ∷ bytes) = if b == BACKSLASH || b == SINGLE_QUOTE then b ∷ single_quoted false bytes else BACKSLASH ∷ b ∷ single_quoted false bytes
+single_quoted false (b ∷ bytes) = if b == BACKSLASH then single_quoted true bytes else b ∷ single_quoted false bytes
 
 -- the byte for which a backslash and this byte stand in `"`
 abbrev pub escaped : ℕ → Option ℕ
-escaped c = if c == 92 then Some 92 else (if c == 34 then Some 34 else (if c == 110 then Some 10 else (if c == 116 then Some 9 else None)))
+escaped c =
+    if c == BACKSLASH then Some BACKSLASH
+    else (if c == DOUBLE_QUOTE then Some DOUBLE_QUOTE else (if c == LETTER_N then Some NEW_LINE else (if c == LETTER_T then Some TAB else None)))
 
 -- an escape, or the fault at its backslash, and what is read after it
 abbrev pub escape_then : ℕ → Option ℕ → Result (List ℕ) ExprFault → Result (List ℕ) ExprFault
@@ -102,12 +105,12 @@ unfoldable pub double_quoted : Bool → ℕ → List ℕ → Result (List ℕ) E
 double_quoted is_escape at [] = Ok []
 double_quoted true at (b ∷ bytes) = escape_then (at - 1) (escaped b) (double_quoted false (at + 1) bytes)
 double_quoted false at (b ∷ bytes) =
-    if b == 92 then double_quoted true (at + 1) bytes
-    else (if b == 35 && slice_index bytes 0 == 123 then Err (Unexpected at) else with_front (b ∷ []) (double_quoted false (at + 1) bytes))
+    if b == BACKSLASH then double_quoted true (at + 1) bytes
+    else (if b == HASH && slice_index bytes 0 == OPEN_BRACE then Err (Unexpected at) else with_front (b ∷ []) (double_quoted false (at + 1) bytes))
 
 -- the text between two marks, of which the first is at `at`
 unfoldable pub quoted : ℕ → ℕ → List ℕ → Result (List ℕ) ExprFault
-quoted quote at bytes = if quote == 39 then Ok (single_quoted false bytes) else double_quoted false (at + 1) bytes
+quoted quote at bytes = if quote == SINGLE_QUOTE then Ok (single_quoted false bytes) else double_quoted false (at + 1) bytes
 
 -- a text of so many bytes between its marks, or its fault
 abbrev pub text_of : ℕ → Result (List ℕ) ExprFault → Front
@@ -154,8 +157,8 @@ unfoldable pub front : Bool → ℕ → List ℕ → Front
 front after_dot at bytes =
     if is_ascii_digit (slice_index bytes 0) then number_at at bytes
     else (if is_lower (slice_index bytes 0) then word_at after_dot at bytes
-    else (if slice_index bytes 0 == 64 then name_at at (drop 1 bytes)
-    else (if slice_index bytes 0 == 34 || slice_index bytes 0 == 39 then text_at (slice_index bytes 0) at (drop 1 bytes)
+    else (if slice_index bytes 0 == AT_SIGN then name_at at (drop 1 bytes)
+    else (if slice_index bytes 0 == DOUBLE_QUOTE || slice_index bytes 0 == SINGLE_QUOTE then text_at (slice_index bytes 0) at (drop 1 bytes)
     else mark_from at (mark_of bytes))))
 
 -- whether a token is this mark; `sameb` is the kit's word for `==` on an enum whose variants hold nothing
@@ -214,3 +217,14 @@ tokens_from (suc room) after_dot at bytes =
 -- The tokens of a text, at most 200 of them, and then its end or its first fault.
 unfoldable pub tokens_of : List ℕ → List Token
 tokens_of bytes = tokens_from 200 false 0 bytes
+
+-- white space alone stands between two places of a text
+abbrev pub IsBlank : List ℕ → ℕ → ℕ → Type 0
+IsBlank text from to = (from ≤ to) × ((i : ℕ) → from ≤ i → i < to → is_space (slice_index text i) ≡ true)
+
+-- Tokens as they stand in a text from a place on: in order and apart, with white space alone between them, and the end at the text's length.
+pub data Stand : List ℕ → Bool → ℕ → List Token → Type 0 where
+  stand_end : (text : List ℕ) (after_dot : Bool) (from : ℕ) → IsBlank text from (length text) → Stand text after_dot from (token kind.End (length text) ∷ [])
+  stand_fault : (text : List ℕ) (after_dot : Bool) (from at : ℕ) (fault : ExprFault) → IsBlank text from at → Stand text after_dot from (token (kind.Fault fault) at ∷ [])
+  stand_token : (text : List ℕ) (after_dot : Bool) (from at len : ℕ) (k : TokenKind) (ts : List Token) → IsBlank text from at → front after_dot at (drop at text) ≡ Ok (k, len) → 1 ≤ len → at + len ≤ length text
+      → Stand text (is_dot k) (at + len) ts → Stand text after_dot from (token k at ∷ ts)

@@ -9,6 +9,7 @@ ghost use Rattle.doll_expr.specs.Tokens as spec;
 
 use crate::expr::{ExprFault, Query};
 use crate::literal::{byte_at, closing, decimal, quoted};
+use crate::signs::{AT_SIGN, DOUBLE_QUOTE, QUESTION_MARK, SINGLE_QUOTE};
 use crate::token::{Mark, Token, TokenKind};
 use doll_text::bytes::{ByteKind, is_lower, prefix_len};
 use doll_text::words::{is_name, lookup, word_of};
@@ -50,7 +51,16 @@ const MARKS: [(&[u8], Mark); 20] = [
 /// The tokens of a text, at most 200, and at last its end or its first fault. Nothing after a fault is read.
 pub fn tokens_of(alloc: Global, bytes: &[u8]) -> Result<Items<Token>, Memory>
     requires { length bytes.now ≤ 262144 }
-    ensures { IfOk result (λ tokens. tokens ≡ spec.tokens_of bytes.now) }
+    ensures value { IfOk result (λ tokens. tokens ≡ spec.tokens_of bytes.now) }
+    // They stand in order and apart, with white space alone between them, and the end at the text's length.
+    ensures stand { IfOk result (λ tokens. spec.Stand bytes.now false 0 tokens) }
+{
+    cut(alloc, bytes)
+}
+
+fn cut(alloc: Global, bytes: &[u8]) -> Result<Items<Token>, Memory>
+    requires { length bytes.now ≤ 262144 }
+    ensures { IfOk result (λ tokens. (tokens ≡ spec.tokens_of bytes.now) × spec.Stand bytes.now false 0 tokens) }
 {
     let mut tokens = Items::new(alloc);
     let mut after_dot = false;
@@ -121,11 +131,11 @@ fn front(
     if is_lower(first) {
         return word_at(alloc, after_dot, at, bytes);
     }
-    if first == b'@' {
+    if first == AT_SIGN {
         let (_sign, rest) = bytes.split_at(1);
         return name_at(alloc, at, rest);
     }
-    if first == b'"' || first == b'\'' {
+    if first == DOUBLE_QUOTE || first == SINGLE_QUOTE {
         let (_quote, rest) = bytes.split_at(1);
         return text_at(alloc, first, at, rest);
     }
@@ -151,7 +161,7 @@ fn question(after_dot: bool, word: &[u8], bytes: &[u8]) -> Option<Query>
     ensures value { result ≡ spec.question after_dot word.now bytes.now }
     ensures within { IfSome result (λ asked. length word.now < length bytes.now) }
 {
-    if after_dot && byte_at(bytes, word.len()) == b'?' {
+    if after_dot && byte_at(bytes, word.len()) == QUESTION_MARK {
         lookup(&QUESTIONS, word)
     } else {
         None

@@ -9,6 +9,7 @@ pub mod lex;
 mod literal;
 pub mod parse;
 pub mod read;
+mod signs;
 pub mod token;
 
 pub use doll_text::{

@@ -5,6 +5,9 @@ ghost use Rattle.doll_text.specs.Gives.{Gives};
 ghost use Rattle.doll_expr.specs.Tokens as spec;
 
 use crate::expr::ExprFault;
+use crate::signs::{
+    BACKSLASH, DOUBLE_QUOTE, HASH, LETTER_N, LETTER_T, NEW_LINE, OPEN_BRACE, SINGLE_QUOTE, TAB,
+};
 use doll_text::{Memory, Text};
 use std::alloc::Global;
 
@@ -41,7 +44,7 @@ pub fn closing(quote: u8, bytes: &[u8]) -> Option<usize>
         if !is_taken && *byte == quote {
             return Some(at);
         }
-        is_taken = !is_taken && *byte == b'\\';
+        is_taken = !is_taken && *byte == BACKSLASH;
         at += 1;
         rest = more;
     }
@@ -54,7 +57,7 @@ pub fn quoted(alloc: Global, quote: u8, at: u32, bytes: &[u8]) -> Result<Text, E
     requires { at + length bytes.now + 1 < 2 ^ 32 }
     ensures { Gives ExprFault.Memory (spec.quoted quote at bytes.now) result }
 {
-    if quote == b'\'' {
+    if quote == SINGLE_QUOTE {
         return Ok(single_quoted(alloc, bytes)?);
     }
     double_quoted(alloc, at + 1, bytes)
@@ -69,12 +72,12 @@ fn single_quoted(alloc: Global, bytes: &[u8]) -> Result<Text, Memory>
     let mut rest = bytes;
     while let [byte, more @ ..] = rest {
         if is_escape {
-            if !(*byte == b'\\' || *byte == b'\'') {
-                read.push(b'\\')?;
+            if !(*byte == BACKSLASH || *byte == SINGLE_QUOTE) {
+                read.push(BACKSLASH)?;
             }
             read.push(*byte)?;
             is_escape = false;
-        } else if *byte == b'\\' {
+        } else if *byte == BACKSLASH {
             is_escape = true;
         } else {
             read.push(*byte)?;
@@ -88,10 +91,10 @@ fn escaped(byte: u8) -> Option<u8>
     ensures { result ≡ spec.escaped byte }
 {
     match byte {
-        b'\\' => Some(b'\\'),
-        b'"' => Some(b'"'),
-        b'n' => Some(b'\n'),
-        b't' => Some(b'\t'),
+        BACKSLASH => Some(BACKSLASH),
+        DOUBLE_QUOTE => Some(DOUBLE_QUOTE),
+        LETTER_N => Some(NEW_LINE),
+        LETTER_T => Some(TAB),
         _ => None,
     }
 }
@@ -114,10 +117,10 @@ fn double_quoted(alloc: Global, start: u32, bytes: &[u8]) -> Result<Text, ExprFa
             };
             read.push(meant)?;
             is_escape = false;
-        } else if *byte == b'\\' {
+        } else if *byte == BACKSLASH {
             is_escape = true;
         } else {
-            if *byte == b'#' && byte_at(more, 0) == b'{' {
+            if *byte == HASH && byte_at(more, 0) == OPEN_BRACE {
                 return Err(ExprFault::Unexpected { at });
             }
             read.push(*byte)?;
