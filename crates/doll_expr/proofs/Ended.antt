@@ -1,10 +1,9 @@
 -- The tokens of a text end in its end or in a fault, which stand nowhere else.
-use Rattle.std.proofs.Common.{◌≡◌, ℕ, zero, suc, ◌+◌, ◌-◌, ◌^◌, ◌==◌, ◌||◌, pos, nat_lt, length, take, get_or, Bool, true, false, cond, List, [], ◌∷◌, ◌++◌, drop, Option, Some, None, Result, Ok, Err, refl, sym, ap, ◌∙◌, inl, inr}
+use Rattle.std.proofs.Common.{◌≡◌, ℕ, zero, suc, ◌+◌, ◌^◌, ◌==◌, ◌||◌, pos, nat_lt, length, take, get_or, Bool, true, false, cond, List, [], ◌∷◌, ◌++◌, drop, Option, Some, None, Result, Ok, Err, refl, sym, ◌∙◌}
 use Rattle.std.specs.Char.{is_ascii_digit}
 use Rattle.std.specs.List.{take_while}
-use Rattle.std.proofs.lemmas.Bool.{cases_Bool}
 use Rattle.doll_expr.specs.declared.expr.ExprFault.{ExprFault}
-use Rattle.doll_expr.specs.declared.expr.ExprFault.TheVariants.{TooDeep, NumberTooLarge, Unexpected}
+use Rattle.doll_expr.specs.declared.expr.ExprFault.TheVariants.{NumberTooLarge, Unexpected}
 use Rattle.doll_expr.specs.declared.expr.Query.{Query}
 use Rattle.doll_expr.specs.declared.token.Mark.{Mark}
 use Rattle.doll_expr.specs.declared.signs.TheConstants.{AT_SIGN, SINGLE_QUOTE, DOUBLE_QUOTE}
@@ -12,7 +11,7 @@ use Rattle.doll_text.specs.declared.words.Word.{Word}
 use Rattle.doll_expr.specs.declared.token.Token.{Token}
 use Rattle.doll_expr.specs.declared.token.TokenKind.{TokenKind}
 use Rattle.doll_expr.specs.declared.token.TokenKind.TheVariants as kind
-use Rattle.doll_text.specs.Bytes.{is_lower, is_space, is_word_byte}
+use Rattle.doll_text.specs.Bytes.{is_lower, is_word_byte}
 use Rattle.doll_text.specs.Names.{word_of, is_name}
 use Rattle.doll_expr.specs.Tokens.{Front, decimal, question, name_from, closing, quoted, mark_of, number_from, number_at, plain_word, word_from, word_at, name_at, text_of, text_from, text_at, mark_from, front, is_dot, is_last, token, spaces, followed, cut, tokens_from, tokens_of}
 pub use Rattle.doll_expr.specs.Tokens.{Ended}

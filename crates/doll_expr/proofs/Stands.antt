@@ -1,6 +1,6 @@
 -- Tokens stand where the loop cuts them.
-use Rattle.std.proofs.Common.{◌≡◌, ℕ, zero, ◌+◌, ◌-◌, ◌<◌, ◌≤◌, Bool, true, false, List, [], ◌∷◌, ◌++◌, length, get_or, drop, Ok, refl, sym, ap, subst, ◌∙◌, append_assoc, arith}
-use Rattle.std.proofs.lemmas.List.{append-nil, drop-drop, get_or-drop, length-drop}
+use Rattle.std.proofs.Common.{◌≡◌, ℕ, ◌+◌, ◌-◌, ◌<◌, ◌≤◌, Bool, false, List, [], ◌∷◌, ◌++◌, length, get_or, drop, Ok, refl, sym, ap, subst, ◌∙◌, append_assoc, arith}
+use Rattle.std.proofs.lemmas.List.{drop-drop, get_or-drop}
 use Rattle.std.proofs.lemmas.List.Sums.{prefix_len_passes}
 use Rattle.doll_expr.specs.declared.expr.ExprFault.{ExprFault}
 use Rattle.doll_expr.specs.declared.token.Token.{Token}

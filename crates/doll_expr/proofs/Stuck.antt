@@ -7,10 +7,7 @@ use Rattle.doll_expr.specs.declared.expr.Expr.TheVariants as e
 use Rattle.doll_expr.specs.declared.expr.ExprFault.{ExprFault}
 use Rattle.doll_expr.specs.declared.expr.Op.{Op}
 use Rattle.doll_expr.specs.declared.level.Level.{Level}
-use Rattle.doll_expr.specs.declared.level.Level.TheVariants as level
 use Rattle.doll_expr.specs.declared.level.Sign.{Sign}
-use Rattle.doll_expr.specs.declared.level.Sign.TheVariants as sign
-use Rattle.doll_expr.specs.declared.token.Mark.{Mark}
 use Rattle.doll_expr.specs.declared.token.Mark.TheVariants as mark
 use Rattle.doll_text.specs.declared.words.Word.TheVariants as word
 use Rattle.doll_expr.specs.declared.token.Token.{Token}
@@ -19,7 +16,7 @@ use Rattle.doll_expr.specs.declared.token.TokenKind.TheVariants as kind
 use Rattle.doll_expr.specs.Tokens.{is_dot, is_last, token}
 use Rattle.doll_expr.specs.Grammar.{Rule, at_level, unary, postfix, atom, Sentence, is_each, mark_at, word_at, level_one, level_operator, unary_one, unary_signed, postfix_one, postfix_step}
 use Rattle.doll_expr.specs.Reading.{first_kind, place, has_step, fault_of, fault_at, stops_at, steps_at, level_at, more_at, unary_at, atom_at, ◌>>=◌, Read}
-use Rattle.doll_expr.specs.Levels.{left_of, tighter, repeats, between, operator_of, sign_of, signed, step_of}
+use Rattle.doll_expr.specs.Levels.{left_of, tighter, repeats, operator_of, sign_of, signed, step_of}
 use Rattle.doll_expr.specs.Faults.{opened_by, opened_after, fault_behind}
 use Rattle.doll_expr.proofs.Rules.{unary_is, begins, again, k_of, k_below, k_small, first_is, operator_inner, operator_no_dot, sign_inner, step_inner, dot_is, if_some_is, chosen}
 use Rattle.doll_expr.proofs.Fuel.{Alike, steps_go, steps_stop, level_go, level_stop, level_last, more_go, more_stop, unary_sign_stop, unary_go, unary_stop}

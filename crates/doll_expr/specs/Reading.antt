@@ -1,22 +1,14 @@
 -- Reading an expression from the left, with the first fault that is met: the form of the reader, which walks the tokens as this does. What it
 -- answers is said without it by the clauses `found`, `only` and `fault` of `parse_expr`: by the sentences of Grammar and the first fault of Faults.
-use Rattle.std.specs.Prelude.{◌≡◌, ℕ, zero, suc, Bool, true, false, not, ◌&&◌, ◌==◌, List, [], ◌∷◌, length, drop, Option, Some, None, Result, Ok, Err, MatchResult, if◌then◌else◌, codes}
+use Rattle.std.specs.Prelude.{ℕ, zero, suc, Bool, true, false, not, ◌&&◌, ◌==◌, List, [], ◌∷◌, length, drop, Option, Some, None, Result, Ok, Err, if◌then◌else◌}
 use Rattle.std.specs.Borrow.{Bor}
 use Rattle.doll_expr.specs.declared.expr.Expr.{Expr}
 use Rattle.doll_expr.specs.declared.expr.Expr.TheVariants as e
 use Rattle.doll_expr.specs.declared.expr.ExprFault.{ExprFault}
 use Rattle.doll_expr.specs.declared.expr.ExprFault.TheVariants.{Unexpected, Unclosed, TooDeep, Memory}
-use Rattle.doll_expr.specs.declared.expr.Op.{Op}
-use Rattle.doll_expr.specs.declared.expr.Op.TheVariants as op
-use Rattle.doll_expr.specs.declared.expr.Query.TheVariants as query
 use Rattle.doll_expr.specs.declared.level.Level.{Level}
 use Rattle.doll_expr.specs.declared.level.Level.TheVariants as level
-use Rattle.doll_expr.specs.declared.level.Sign.{Sign}
-use Rattle.doll_expr.specs.declared.level.Sign.TheVariants as sign
-use Rattle.doll_expr.specs.declared.token.Mark.{Mark}
 use Rattle.doll_expr.specs.declared.token.Mark.TheVariants as mark
-use Rattle.doll_text.specs.declared.words.Word.{Word}
-use Rattle.doll_text.specs.declared.words.Word.TheVariants as word
 use Rattle.doll_expr.specs.declared.token.Token.{Token}
 use Rattle.doll_expr.specs.declared.token.TokenKind.{TokenKind}
 use Rattle.doll_expr.specs.declared.token.TokenKind.TheVariants as kind
