@@ -110,7 +110,8 @@ fn site_reply(
     path: &[u8],
 ) -> Result<Reply, Memory>
     requires { tree_alone bundle.pages.tree ≡ true }
-    ensures value { IfOk result (λ reply. reply ≡ site_reply (site_of (seen_bundle bundle.entry) readings.now) path.now) }
+    ensures value { IfOk result (λ reply.
+        reply ≡ site_reply (site_of (seen_bundle bundle.entry) readings.now) path.now) }
     ensures status { IfOk result (λ reply. IsAnswer reply.status) }
 {
     match Site::of(alloc, bundle, readings) {
@@ -128,7 +129,10 @@ fn timed_reply<C: Clock>(
     clock: &mut C,
 ) -> Result<Reply, Memory>
     requires { tree_alone bundle.pages.tree ≡ true }
-    ensures value { AnswersTimed (readings_needed (Ok (seen_bundle bundle.entry))) (bundle_reply (Ok (seen_bundle bundle.entry)) path.now) (C.readings clock.old) (C.readings clock.new) result }
+    ensures value { AnswersTimed
+        (readings_needed (Ok (seen_bundle bundle.entry)))
+        (bundle_reply (Ok (seen_bundle bundle.entry)) path.now)
+        (C.readings clock.old) (C.readings clock.new) result }
     ensures status { IfOk result (λ reply. IsAnswer reply.status) }
 {
     let readings = read_clock(alloc, clock, bundle.untimed())?;
@@ -142,7 +146,10 @@ fn bundle_reply<C: Clock>(
     path: &[u8],
     clock: &mut C,
 ) -> Result<Reply, Memory>
-    ensures value { AnswersTimed (readings_needed (bundle_in (view json.now))) (bundle_reply (bundle_in (view json.now)) path.now) (C.readings clock.old) (C.readings clock.new) result }
+    ensures value { AnswersTimed
+        (readings_needed (bundle_in (view json.now)))
+        (bundle_reply (bundle_in (view json.now)) path.now)
+        (C.readings clock.old) (C.readings clock.new) result }
     ensures status { IfOk result (λ reply. IsAnswer reply.status) }
 {
     match Bundle::read(alloc, json) {
@@ -159,7 +166,9 @@ pub fn plain_reply<C: Clock>(
     clock: &mut C,
 ) -> Result<Reply, Memory>
     requires { length input.now ≤ LONGEST_INPUT }
-    ensures value { AnswersTimed (readings_needed (bundle_of input.now)) (plain_reply path.now input.now) (C.readings clock.old) (C.readings clock.new) result }
+    ensures value { AnswersTimed
+        (readings_needed (bundle_of input.now)) (plain_reply path.now input.now)
+        (C.readings clock.old) (C.readings clock.new) result }
     ensures status { IfOk result (λ reply. IsAnswer reply.status) }
 {
     match json_of(alloc, input) {

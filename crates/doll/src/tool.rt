@@ -35,14 +35,18 @@ fn reply_to<S: Source, C: Clock>(
     source: &mut S,
     clock: &mut C,
 ) -> Result<Reply, Unanswered>
-    ensures reply { IfOk result (λ reply. IsReply (map string_bytes words.now) (S.left source.old) (C.readings clock.old) (C.readings clock.new) reply) }
+    ensures reply { IfOk result (λ reply. IsReply
+        (map string_bytes words.now) (S.left source.old)
+        (C.readings clock.old) (C.readings clock.new) reply) }
     ensures status { IfOk result (λ reply. IsAnswer reply.status) }
     ensures failed { IsErrOf result Unanswered.Failed → Rose (S.faults source.old) (S.faults source.new) }
     ensures unread { plain_path (map string_bytes words.now) ≡ None → source.new ≡ source.old }
     ensures taken { TookAtMost (LONGEST_INPUT + 1) (S.left source.old) (S.left source.new) }
     ensures clock { IsErrOf result Unanswered.Failed → clock.new ≡ clock.old }
     ensures unasked { plain_path (map string_bytes words.now) ≡ None → clock.new ≡ clock.old }
-    ensures reads { ReadsFor (map string_bytes words.now) (S.left source.old) (C.readings clock.old) (C.readings clock.new) }
+    ensures reads { ReadsFor
+        (map string_bytes words.now) (S.left source.old)
+        (C.readings clock.old) (C.readings clock.new) }
     ensures count { KeepsCount (S.faults source.old) (S.faults source.new) }
 {
     let path = match plain_path(words) {
@@ -68,10 +72,25 @@ pub fn run_tool<F: Folder, S: Source, K: Sink, C: Clock>(
 ) -> Status
     // Where nothing failed and memory was found, the status and what is written are those of the words, the input and the
     // clock's readings.
-    ensures answer { IsAnswer result → Answers (record { words = map string_bytes words.now; left = S.left source.old; before = C.readings clock.old; after = C.readings clock.new }) (K.held sink.old) (K.held sink.new) result }
+    ensures answer { IsAnswer result → Answers
+        (record {
+          words = map string_bytes words.now;
+          left = S.left source.old;
+          before = C.readings clock.old;
+          after = C.readings clock.new;
+        })
+        (K.held sink.old) (K.held sink.new) result }
     // It doesn't give up by itself.
     ensures read_failed { result ≡ Status.ReadFailed → Rose (S.faults source.old) (S.faults source.new) }
-    ensures write_failed { result ≡ Status.WriteFailed → Rose (K.faults sink.old) (K.faults sink.new) × AnswersPart (record { words = map string_bytes words.now; left = S.left source.old; before = C.readings clock.old; after = C.readings clock.new }) (K.held sink.old) (K.held sink.new) }
+    ensures write_failed { result ≡ Status.WriteFailed →
+        Rose (K.faults sink.old) (K.faults sink.new) × AnswersPart
+        (record {
+          words = map string_bytes words.now;
+          left = S.left source.old;
+          before = C.readings clock.old;
+          after = C.readings clock.new;
+        })
+        (K.held sink.old) (K.held sink.new) }
     // Words that are none of the forms are told before anything is read.
     ensures unread { plain_path (map string_bytes words.now) ≡ None → source.new ≡ source.old }
     // Whatever the answer, no more is read than tells that the input is too long.
@@ -83,7 +102,9 @@ pub fn run_tool<F: Folder, S: Source, K: Sink, C: Clock>(
     // Nor is it for words that are none of the forms.
     ensures unasked { plain_path (map string_bytes words.now) ≡ None → clock.new ≡ clock.old }
     // Whatever the answer, it is read at most once for each commit of the bundle that says no time.
-    ensures reads { ReadsFor (map string_bytes words.now) (S.left source.old) (C.readings clock.old) (C.readings clock.new) }
+    ensures reads { ReadsFor
+        (map string_bytes words.now) (S.left source.old)
+        (C.readings clock.old) (C.readings clock.new) }
     // The folder isn't asked yet.
     ensures folder { folder.new ≡ folder.old }
 {

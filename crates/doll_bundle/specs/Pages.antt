@@ -19,7 +19,8 @@ use Rattle.doll_bundle.specs.declared.refusal.Kind.TheVariants as kind
 use Rattle.doll_bundle.specs.declared.refusal.Refusal.{Refusal}
 use Rattle.doll_bundle.specs.declared.refusal.Refusal.TheVariants.{NotBuilt, Refused}
 use Rattle.doll_bundle.specs.declared.pages.Pages.{Pages}
-use Rattle.doll_bundle.specs.declared.pages.TheConstants.{LONGEST_VIRTUAL_PATH, LONGEST_SOURCE}
+use Rattle.doll_expr.specs.declared.lex.TheConstants.{LONGEST_SOURCE}
+use Rattle.doll_bundle.specs.declared.pages.TheConstants.{LONGEST_VIRTUAL_PATH}
 use Rattle.doll_bundle.specs.Paths.{record_path, is_virtual_path}
 use Rattle.doll_bundle.specs.Forms.{Parts}
 

@@ -72,7 +72,9 @@ fn parts_in(json: &Value) -> Result<Parts<'_>, Refusal>
 
 /// The array of a bundle's commits, an empty one where they are left out.
 fn commits_in(commits: Option<&Value>) -> Result<&[Value], Refusal>
-    ensures { GivesExactly (λ items. items_view items.now) (commits_in (option_map (λ d. view d.now) commits.entry)) result }
+    ensures { GivesExactly
+        (λ items. items_view items.now)
+        (commits_in (option_map (λ d. view d.now) commits.entry)) result }
 {
     let Some(commits) = commits else {
         return Ok(&[]);

@@ -122,7 +122,9 @@ fn recorded(
 ) -> Result<(), Refusal>
     requires storable { AreStorable changes }
     requires faultless { IsFaultless records.old.keeper.plan }
-    ensures exact { GivesHistory Refusal.Memory (recorded records.old.schema records.old.history time changes) records.new.history result }
+    ensures exact { GivesHistory Refusal.Memory
+        (recorded records.old.schema records.old.history time changes)
+        records.new.history result }
     ensures schema { records.new.schema ≡ records.old.schema }
     ensures faultless { IsFaultless records.new.keeper.plan }
 {
@@ -147,7 +149,9 @@ fn record_next(
     commit: &Value,
 ) -> Result<(), Refusal>
     requires { IsFaultless records.old.keeper.plan }
-    ensures exact { GivesHistory Refusal.Memory (commit_result records.old.schema records.old.history reading (view commit.now)) records.new.history result }
+    ensures exact { GivesHistory Refusal.Memory
+        (commit_result records.old.schema records.old.history reading (view commit.now))
+        records.new.history result }
     ensures schema { records.new.schema ≡ records.old.schema }
     ensures faultless { IsFaultless records.new.keeper.plan }
 {
@@ -192,7 +196,9 @@ fn record_all(
     commits: &[Value],
 ) -> Result<(), Refusal>
     requires { IsFaultless records.old.keeper.plan }
-    ensures exact { GivesHistory Refusal.Memory (commits_from records.old.schema records.old.history readings.now (items_view commits.now)) records.new.history result }
+    ensures exact { GivesHistory Refusal.Memory
+        (commits_from records.old.schema records.old.history readings.now (items_view commits.now))
+        records.new.history result }
     ensures schema { records.new.schema ≡ records.old.schema }
 {
     let mut rest = commits;
@@ -229,7 +235,8 @@ pub fn table_after(
     readings: &[u64],
     commits: &[Value],
 ) -> Result<SharedTable, Refusal>
-    ensures exact { Gives Refusal.Memory (all_recorded schema.now readings.now (items_view commits.now)) result }
+    ensures exact { Gives Refusal.Memory
+        (all_recorded schema.now readings.now (items_view commits.now)) result }
     ensures fits { IfOk result (λ table. Fits schema.now table) }
 {
     let mut records = no_records(alloc, schema)?;

@@ -62,7 +62,8 @@ fn route_parts(route: &Value) -> Option<RouteParts<'_>>
 
 /// The source of the one view, which is the template's file.
 fn source_of<'a>(template: &str, views: &'a Map<String, Value>) -> Option<&'a Value>
-    ensures { option_map (λ d. view d.now) result ≡ source_of template.now (members_view views.now.entries) }
+    ensures { option_map (λ d. view d.now) result
+        ≡ source_of template.now (members_view views.now.entries) }
 {
     let (name, source) = only_member(views)?;
     let path = virtual_path(name.as_bytes())?;
@@ -76,7 +77,8 @@ fn source_of<'a>(template: &str, views: &'a Map<String, Value>) -> Option<&'a Va
 /// The one member of an object.
 #[tactic(auto, using(crate::proofs::Members::only_member_none, crate::proofs::Members::only_member_some))]
 fn only_member(object: &Map<String, Value>) -> Option<(&String, &Value)>
-    ensures { option_map (λ m. (string_bytes m.0.now, view m.1.now)) result ≡ only_member (members_view object.now.entries) }
+    ensures { option_map (λ m. (string_bytes m.0.now, view m.1.now)) result
+        ≡ only_member (members_view object.now.entries) }
 {
     if object.len() != 1 {
         return None;

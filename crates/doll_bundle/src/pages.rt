@@ -12,6 +12,7 @@ use crate::form::Parts;
 use crate::path::{is_virtual_path, record_path};
 use crate::refusal::{BundlePart, Kind, Refusal};
 use doll_erb::{ErbFault, Tree, parse_template};
+use doll_expr::LONGEST_SOURCE;
 use doll_plain::tree_alone;
 use doll_schema::{Schema, SchemaFault};
 use doll_text::Name;
@@ -20,9 +21,6 @@ use std::alloc::Global;
 
 /// The longest virtual path, whose file name has nine bytes more.
 const LONGEST_VIRTUAL_PATH: usize = 191;
-
-/// The longest source of a view, in bytes.
-pub const LONGEST_SOURCE: usize = 262_144;
 
 /// The pages of a site: those of one record.
 #[derive(Drop)]

@@ -11,7 +11,8 @@ use std::alloc::Global;
 /// Reads the clock so many times, and gives the readings in order. Where no memory is found it may have been read fewer times.
 #[tactic(auto, using(crate::proofs::ClockReadings::appended_more, crate::proofs::ClockReadings::reads_more))]
 pub fn read_clock<C: Clock>(alloc: Global, clock: &mut C, count: usize) -> Result<Vec<u64>, Memory>
-    ensures taken { IfOk result (λ readings. Appended (C.readings clock.old) (C.readings clock.new) readings.items) }
+    ensures taken { IfOk result (λ readings.
+        Appended (C.readings clock.old) (C.readings clock.new) readings.items) }
     ensures count { IfOk result (λ readings. length readings.items ≡ count) }
     ensures reads { ReadsClock count (C.readings clock.old) (C.readings clock.new) }
 {

@@ -6,7 +6,7 @@ ghost use Rattle.doll_erb.specs.Cuts.{cut_of, Tiles};
 ghost use Rattle.doll_erb.specs.Pieces.{begins_with, place_of, line_end, kind_of, mark_len, trims, tag_piece, text_piece, opened_piece, piece_at, IsInside};
 
 use crate::node::ErbFault;
-use doll_expr::Items;
+use doll_expr::{Items, LONGEST_SOURCE};
 use std::alloc::Global;
 
 /// A part of a text: from the byte at `from` up to, and without, that at `to`.
@@ -48,7 +48,7 @@ pub type Tags = Items<Tag>;
 
 /// Cuts a template into its pieces: texts and tags. The first tag that isn't closed or isn't known is the fault.
 pub fn cut(alloc: Global, text: &str) -> Result<Tags, ErbFault>
-    requires { length text.now ≤ 262144 }
+    requires { length text.now ≤ LONGEST_SOURCE }
     ensures exact { Gives ErbFault.Memory (cut_of text.now) result }
     // No byte is left out, and none stands in two pieces.
     ensures tiles { IfOk result (λ tags. Tiles 0 tags (length text.now)) }

@@ -12,7 +12,9 @@ use crate::partial::dependency_of;
 use crate::piece::TagKind;
 use crate::render::rendered;
 use crate::role::{Closing, Opening, Role};
-use doll_expr::{ExprFault, Mark, Name, Token, Word, fault_at, is_word, rest_of, tokens_of};
+use doll_expr::{
+    ExprFault, LONGEST_SOURCE, Mark, Name, Token, Word, fault_at, is_word, rest_of, tokens_of,
+};
 use std::alloc::Global;
 
 /// What a tag at a place does, by its kind and its content. The places of faults count from the content's first byte.
@@ -23,7 +25,7 @@ pub(crate) fn role_of(
     kind: TagKind,
     content: &[u8],
 ) -> Result<Role, ExprFault>
-    requires { length content.now ≤ 262144 }
+    requires { length content.now ≤ LONGEST_SOURCE }
     ensures { Gives ExprFault.Memory (spec.role_of at kind content.now) result }
 {
     match kind {

@@ -15,7 +15,7 @@ use crate::node::{Arm, Arms, ErbFault, Node, Tree};
 use crate::piece::{Tag, TagKind, cut};
 use crate::role::{Closing, Opening, Role};
 use crate::tag::role_of;
-use doll_expr::{Expr, ExprFault, Items, Text};
+use doll_expr::{Expr, ExprFault, Items, LONGEST_SOURCE, Text};
 use std::alloc::{AllocError, Global};
 
 /// How many blocks may be open at once.
@@ -33,7 +33,7 @@ struct Reading {
 /// The tree of a template, or its first fault. The faults of the cut come first; of the others the first in the text, and at
 /// last the innermost block that isn't closed.
 pub fn parse_template(alloc: Global, text: &str) -> Result<Tree, ErbFault>
-    requires { length text.now ≤ 262144 }
+    requires { length text.now ≤ LONGEST_SOURCE }
     // What is accepted is a template of the grammar of blocks with this tree.
     ensures found { IfOk result (λ tree. IsTemplate text.now tree) }
     // Each template of the grammar is accepted with its tree, unless memory runs out.
@@ -58,7 +58,7 @@ pub fn tags_are_sentences()
 
 #[tactic(auto, unfolding(crate::specs::Trees::tree_of, crate::specs::Trees::whole))]
 fn read_template(alloc: Global, text: &str) -> Result<Tree, ErbFault>
-    requires { length text.now ≤ 262144 }
+    requires { length text.now ≤ LONGEST_SOURCE }
     ensures { Gives ErbFault.Memory (spec.tree_of text.now) result }
 {
     let tags = cut(alloc, text)?;
@@ -69,7 +69,7 @@ fn read_template(alloc: Global, text: &str) -> Result<Tree, ErbFault>
 /// What all pieces come to.
 #[tactic(auto, unfolding(crate::specs::Trees::with_pieces))]
 fn read_pieces(alloc: Global, text: &[u8], tags: &[Tag]) -> Result<Reading, ErbFault>
-    requires fits { length text.now ≤ 262144 }
+    requires fits { length text.now ≤ LONGEST_SOURCE }
     requires numbers { length tags.now < 2 ^ 32 }
     ensures { GivesState (spec.with_pieces text.now (spec.state [] [] [] 0) tags.now) result }
 {
@@ -115,7 +115,7 @@ fn place_of(frame: &Frame) -> u32
 /// What was read with a piece more.
 #[tactic(auto, unfolding(crate::specs::Trees::with_piece))]
 fn with_piece(alloc: Global, text: &[u8], reading: Reading, tag: &Tag) -> Result<Reading, ErbFault>
-    requires fits { length text.now ≤ 262144 }
+    requires fits { length text.now ≤ LONGEST_SOURCE }
     requires numbers { reading.number + 1 < 2 ^ 32 }
     ensures value { GivesState (spec.with_piece text.now (state_of reading) tag.now) result }
     ensures numbers { IfOk result (λ r. r.number ≤ reading.number + 1) }
@@ -132,7 +132,7 @@ fn with_piece(alloc: Global, text: &[u8], reading: Reading, tag: &Tag) -> Result
 /// What a piece does. A fault in it is told with its place.
 #[tactic(auto, unfolding(crate::specs::Trees::role_in))]
 fn role_in(alloc: Global, text: &[u8], tag: &Tag) -> Result<Role, ErbFault>
-    requires { length text.now ≤ 262144 }
+    requires { length text.now ≤ LONGEST_SOURCE }
     ensures { Gives ErbFault.Memory (spec.role_in text.now tag.now) result }
 {
     let at = tag.span.from;

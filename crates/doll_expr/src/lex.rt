@@ -16,6 +16,9 @@ use doll_text::words::{is_name, lookup, word_of};
 use doll_text::{Items, Memory, Name};
 use std::alloc::Global;
 
+/// The most bytes of a text that is cut into tokens, and of a template.
+pub const LONGEST_SOURCE: usize = 262_144;
+
 /// How many tokens a text may have beside its end.
 const MOST_TOKENS: u8 = 200;
 
@@ -50,7 +53,7 @@ const MARKS: [(&[u8], Mark); 20] = [
 
 /// The tokens of a text, at most 200, and at last its end or its first fault. Nothing after a fault is read.
 pub fn tokens_of(alloc: Global, bytes: &[u8]) -> Result<Items<Token>, Memory>
-    requires { length bytes.now ≤ 262144 }
+    requires { length bytes.now ≤ LONGEST_SOURCE }
     ensures value { IfOk result (λ tokens. tokens ≡ spec.tokens_of bytes.now) }
     // They stand in order and apart, with white space alone between them, and the end at the text's length.
     ensures stand { IfOk result (λ tokens. spec.Stand bytes.now false 0 tokens) }
@@ -59,7 +62,7 @@ pub fn tokens_of(alloc: Global, bytes: &[u8]) -> Result<Items<Token>, Memory>
 }
 
 fn cut(alloc: Global, bytes: &[u8]) -> Result<Items<Token>, Memory>
-    requires { length bytes.now ≤ 262144 }
+    requires { length bytes.now ≤ LONGEST_SOURCE }
     ensures { IfOk result (λ tokens. (tokens ≡ spec.tokens_of bytes.now) × spec.Stand bytes.now false 0 tokens) }
 {
     let mut tokens = Items::new(alloc);
@@ -119,7 +122,7 @@ fn front(
     at: u32,
     bytes: &[u8],
 ) -> Result<(TokenKind, usize), ExprFault>
-    requires { at + length bytes.now ≤ 262144 }
+    requires { at + length bytes.now ≤ LONGEST_SOURCE }
     ensures value { Gives ExprFault.Memory (spec.front after_dot at bytes.now) result }
     ensures within { IfOk result (λ found. (1 ≤ found.1) × (found.1 ≤ length bytes.now)) }
     ensures plain { IfOk result (λ found. spec.is_last found.0 ≡ false) }
@@ -214,7 +217,7 @@ fn name_at(alloc: Global, at: u32, bytes: &[u8]) -> Result<(TokenKind, usize), E
 /// The text whose opening mark is at `at`, from the bytes after that mark.
 #[tactic(auto, unfolding(crate::specs::Tokens::text_at))]
 fn text_at(alloc: Global, quote: u8, at: u32, bytes: &[u8]) -> Result<(TokenKind, usize), ExprFault>
-    requires { at + length bytes.now ≤ 262144 }
+    requires { at + length bytes.now ≤ LONGEST_SOURCE }
     ensures value { Gives ExprFault.Memory (spec.text_at quote at bytes.now) result }
     ensures within { IfOk result (λ found. (1 ≤ found.1) × (found.1 ≤ length bytes.now + 1)) }
     ensures plain { IfOk result (λ found. spec.is_last found.0 ≡ false) }

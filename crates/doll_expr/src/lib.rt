@@ -16,7 +16,7 @@ pub use doll_text::{
     Boxed, Bytes, Copied, Ids, Items, Memory, Name, Text, Word, copy_list, is_name,
 };
 pub use expr::{Expr, ExprFault, Op, Query};
-pub use lex::tokens_of;
+pub use lex::{LONGEST_SOURCE, tokens_of};
 pub use parse::{parse_expr, parse_expr_bytes};
 pub use read::{expr_at, fault_at, is_mark, is_word, place, rest_of, stops_at, whole_expr};
 pub use token::{Mark, Token, TokenKind};

@@ -9,13 +9,13 @@ ghost use Rattle.doll_expr.specs.Reading.{expr_of};
 ghost use Rattle.doll_expr.specs.Tokens.{tokens_of};
 
 use crate::expr::{Expr, ExprFault};
-use crate::lex::tokens_of;
+use crate::lex::{LONGEST_SOURCE, tokens_of};
 use crate::read::whole_expr;
 use std::alloc::Global;
 
 /// The tree of an expression, or the first fault of the text.
 pub fn parse_expr(alloc: Global, text: &str) -> Result<Expr, ExprFault>
-    requires { length text.now ≤ 262144 }
+    requires { length text.now ≤ LONGEST_SOURCE }
     // What is accepted is a sentence of the grammar with this tree.
     ensures found { IfOk result (λ e. IsExpr text.now e) }
     // Each sentence of the grammar is accepted with its tree, unless memory runs out.
@@ -30,7 +30,7 @@ pub fn parse_expr(alloc: Global, text: &str) -> Result<Expr, ExprFault>
 
 /// The tree of an expression in bytes, or their first fault.
 pub fn parse_expr_bytes(alloc: Global, bytes: &[u8]) -> Result<Expr, ExprFault>
-    requires { length bytes.now ≤ 262144 }
+    requires { length bytes.now ≤ LONGEST_SOURCE }
     ensures found { IfOk result (λ e. IsExpr bytes.now e) }
     ensures only { (e : Expr) → IsExpr bytes.now e → Gives ExprFault.Memory (Ok e) result }
     ensures fault { Faults (tokens_of bytes.now) result }
@@ -41,7 +41,7 @@ pub fn parse_expr_bytes(alloc: Global, bytes: &[u8]) -> Result<Expr, ExprFault>
 
 #[tactic(auto, unfolding(crate::specs::Reading::expr_of))]
 fn read_bytes(alloc: Global, bytes: &[u8]) -> Result<Expr, ExprFault>
-    requires { length bytes.now ≤ 262144 }
+    requires { length bytes.now ≤ LONGEST_SOURCE }
     ensures { Gives ExprFault.Memory (expr_of bytes.now) result }
 {
     let tokens = tokens_of(alloc, bytes)?;
