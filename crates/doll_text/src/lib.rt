@@ -12,6 +12,7 @@ pub mod words;
 pub use bytes::{ByteKind, SLASH, is_space, prefix_len};
 pub use copies::{Copied, copy_list};
 pub use memory::Memory;
+pub use segments::is_virtual_path;
 pub use sqlite_items::{Boxed, Items};
 pub use text::{Bytes, Ids, Name, Text};
 pub use words::{Word, is_name};
