@@ -1,4 +1,4 @@
--- What is known of a source and of a sink in memory, and what their calls do to them (this project's own).
+-- What is known of a source, of a sink and of a folder in memory, and what their calls do to them (this project's own).
 use Rattle.std.specs.Prelude.{ℕ, List, length, min}
 use Rattle.doll_base.specs.Faults.{Plan}
 
@@ -16,4 +16,10 @@ given_count feed room = min room (min feed.piece (length feed.left))
 pub record Store : Type 0 where
   pub held : List ℕ
   pub piece : ℕ
+  pub plan : Plan
+
+-- A folder in memory: its files, each a name and its bytes, the names that were asked for, and the plan of its faults.
+pub record Files : Type 0 where
+  pub files : List (List ℕ × List ℕ)
+  pub asked : List (List ℕ)
   pub plan : Plan

@@ -1,6 +1,6 @@
 //! Folders of files.
 
-ghost use Rattle.std.specs.Prelude.{◌≡◌, ◌≤◌, ℕ, List, Option, vec_len, IfOk, IfSome};
+ghost use Rattle.std.specs.Prelude.{◌≡◌, ◌≤◌, ◌∷◌, ◌++◌, [], ℕ, List, Option, vec_len, IfOk, IfSome};
 ghost use Rattle.doll_base.specs.Faults.{KeepsCount, HasCause};
 ghost use Rattle.doll_base.specs.declared.folder.FolderFault.TheVariants.{Failed};
 
@@ -37,6 +37,9 @@ pub trait Folder {
     /// The files, each a name and its bytes, where the folder tells them.
     ghost files: { Self → Option (List (List ℕ × List ℕ)) };
 
+    /// The names that were asked for so far, one for each call.
+    ghost asked: { Self → List (List ℕ) };
+
     /// How often the folder has failed.
     ghost faults: { Self → ℕ };
 
@@ -46,6 +49,7 @@ pub trait Folder {
             GivesFile (file_up_to most (file_named name.now files)) result) }
         ensures within { IfOk result (λ bytes. vec_len bytes ≤ most) }
         ensures kept { files self.new ≡ files self.old }
+        ensures asked { asked self.new ≡ asked self.old ++ name.now ∷ [] }
         ensures cause { HasCause Failed (faults self.old) (faults self.new) result }
         ensures count { KeepsCount (faults self.old) (faults self.new) };
 }

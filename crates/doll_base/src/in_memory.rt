@@ -1,16 +1,21 @@
-//! A source and a sink in memory, which tell all that they hold and fail where they are told to, and a clock that was
-//! given its readings and never fails.
+//! A source, a sink and a folder in memory, which tell all that they hold and fail where they are told to, and a clock
+//! that was given its readings and never fails.
 
-ghost use Rattle.std.specs.Prelude.{◌≡◌, ◌<◌, ◌≤◌, ◌↔◌, ◌∷◌, ◌++◌, [], length, take, min, Some, None, IfOk, OnOk, OnErr, IsErr, IsTrue, vec_len};
-ghost use Rattle.doll_base.specs.Faults.{Rose, KeepsCount, fresh_plan, is_due, after_call, after_failure};
+ghost use Rattle.std.specs.Prelude.{◌≡◌, ◌<◌, ◌≤◌, ◌↔◌, ◌∷◌, ◌++◌, [], length, take, min, Some, None, IfOk, OnOk, OnErr, IsErr, IsErrOf, IsTrue, option_map, vec_len};
+ghost use Rattle.doll_base.specs.Faults.{Rose, KeepsCount, HasCause, fresh_plan, is_due, after_call, after_failure};
+ghost use Rattle.doll_base.specs.Folders.{file_named, file_up_to, GivesFile, named_files};
 ghost use Rattle.doll_base.specs.Streams.{Took, IsAtEnd, Appended};
 ghost use Rattle.doll_base.specs.Memories.{given_count};
+ghost use Rattle.doll_base.specs.declared.folder.FolderFault.TheVariants.{Failed};
 ghost use Rattle.doll_base.specs.Readings.{reading_at};
 
+use crate::asked::Asked;
 use crate::clock::Clock;
 use crate::faults::FaultPlan;
+use crate::folder::{Folder, FolderFault};
 use crate::sink::{Sink, WriteFault};
 use crate::source::{ReadFault, Source};
+use doll_text::{Name, Text};
 use http_server::Log;
 use std::alloc::Global;
 use std::marker::Model;
@@ -155,6 +160,92 @@ impl Sink for MemSink {
         }
         Ok(count)
     }
+}
+
+/// A file with its name. Neither is bound to a form: the name may be any text, and the bytes need not be one.
+#[derive(Drop)]
+pub struct ViewFile {
+    pub name: Name,
+    pub source: Text,
+}
+
+/// A folder over a vector of files. Of two with one name it has the first alone.
+#[derive(Drop)]
+pub struct MemFolder {
+    files: Vec<ViewFile>,
+    asked: Asked,
+    plan: FaultPlan,
+}
+
+impl Model for MemFolder {
+    ghost use Rattle.doll_base.specs.Folders.{named_files};
+    ghost use Rattle.doll_base.specs.Memories.{Files};
+
+    ghost Value = { Files };
+
+    ghost view = { λ f. record { files = named_files f.files.items; asked = f.asked; plan = f.plan } };
+}
+
+impl MemFolder {
+    /// Has these files. The calls with the numbers in `failing`, from 0, fail, whether or not there is such a file.
+    pub fn new(files: Vec<ViewFile>, failing: Vec<u64>) -> MemFolder
+        ensures told { ⟦<MemFolder as Folder>⟧.files result ≡ Some (named_files files.items) }
+        ensures asked { ⟦<MemFolder as Folder>⟧.asked result ≡ [] }
+        ensures faults { ⟦<MemFolder as Folder>⟧.faults result ≡ 0 }
+        ensures plan { result.plan ≡ fresh_plan failing.items None }
+    {
+        MemFolder {
+            files,
+            asked: Asked::new(),
+            plan: FaultPlan::new(failing, None),
+        }
+    }
+}
+
+impl Folder for MemFolder {
+    ghost files = { λ f. Some f.files };
+
+    ghost asked = { λ f. f.asked };
+
+    ghost faults = { λ f. f.plan.faults };
+
+    fn read_file(&mut self, alloc: Global, name: &str, most: usize) -> Result<Vec<u8>, FolderFault>
+        ensures told { GivesFile (file_up_to most (file_named name.now self.old.files)) result }
+        ensures within { IfOk result (λ bytes. vec_len bytes ≤ most) }
+        ensures kept { self.new.files ≡ self.old.files }
+        ensures asked { self.new.asked ≡ self.old.asked ++ name.now ∷ [] }
+        ensures cause { HasCause Failed self.old.plan.faults self.new.plan.faults result }
+        ensures count { KeepsCount self.old.plan.faults self.new.plan.faults }
+        ensures due { IsErrOf result Failed ↔ IsTrue (is_due self.old.plan) }
+        ensures plan { self.new.plan ≡ after_call self.old.plan }
+    {
+        self.asked.add(name);
+        if self.plan.fails() {
+            return Err(FolderFault::Failed);
+        }
+        let Some(bytes) = source_of(&self.files, name.as_bytes()) else {
+            return Err(FolderFault::Missing);
+        };
+        if bytes.len() > most {
+            return Err(FolderFault::TooLong);
+        }
+        Ok(Vec::from_slice(alloc, bytes)?)
+    }
+}
+
+/// The bytes of the first file with this name.
+fn source_of<'a>(files: &'a [ViewFile], name: &[u8]) -> Option<&'a [u8]>
+    ensures { option_map (λ bytes. bytes.now) result
+        ≡ file_named name.now (named_files files.now) }
+{
+    let mut rest = files;
+    while let [file, more @ ..] = rest {
+        if file.name.as_bytes() == name {
+            return Some(file.source.as_bytes());
+        }
+        rest = more;
+    }
+    None
 }
 
 /// A clock that was given its readings.

@@ -2,6 +2,7 @@
 //! written over any of them, and each refusal that blames the outside comes only where its count of faults rose.
 #![tactic(auto)]
 
+pub mod asked;
 pub mod clock;
 pub mod faults;
 pub mod folder;
@@ -11,11 +12,12 @@ pub mod sink;
 pub mod source;
 pub mod system;
 
+pub use asked::Asked;
 pub use clock::Clock;
 pub use doll_text::{Bytes, Ids, Items, Memory, Name, Text};
 pub use faults::{FaultCount, FaultPlan};
 pub use folder::{Folder, FolderFault};
-pub use in_memory::{ListClock, MemSink, MemSource};
+pub use in_memory::{ListClock, MemFolder, MemSink, MemSource, ViewFile};
 pub use input::InputFault;
 pub use sink::{Sink, WriteFault, write_whole};
 pub use source::{ReadFault, Source, read_all};

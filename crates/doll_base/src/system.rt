@@ -2,18 +2,22 @@
 //! contract can say what a stream, a file or a clock of the system holds. What a call does to the reader or the writer
 //! inside is said where std knows its bytes.
 
-ghost use Rattle.std.specs.Prelude.{◌≡◌, ◌-◌, ◌/◌, ◌^◌, ◌<◌, ◌≤◌, length, take, min, IfOk, OnErr, None};
+ghost use Rattle.std.specs.Prelude.{◌≡◌, ◌-◌, ◌/◌, ◌^◌, ◌<◌, ◌≤◌, ◌∷◌, ◌++◌, [], false, length, take, min, vec_len, Err, IfOk, OnErr, None};
 ghost use Rattle.std.specs.Duration.{as_nanos};
 ghost use Rattle.std.specs.Io.KnownBytes.{Appends, Keeps, ReadConsumes};
-ghost use Rattle.doll_base.specs.Faults.{Rose, KeepsCount};
+ghost use Rattle.doll_base.specs.Faults.{Rose, KeepsCount, HasCause};
+ghost use Rattle.doll_base.specs.Folders as spec;
 ghost use Rattle.doll_base.specs.Systems.{AppendsPart};
+ghost use Rattle.doll_base.specs.declared.folder.FolderFault.TheVariants.{Missing, Failed};
 
+use crate::asked::Asked;
 use crate::clock::Clock;
 use crate::faults::FaultCount;
 use crate::folder::{Folder, FolderFault};
 use crate::input::InputFault;
 use crate::sink::{Sink, WriteFault};
 use crate::source::{ReadFault, Source, read_all};
+use doll_text::SLASH;
 use std::alloc::Global;
 use std::fs::OpenFile;
 use std::io::{ErrorKind, Read, Write};
@@ -176,12 +180,14 @@ fn flush_again<W: Write>(writer: &mut W) -> io::Result<()>
     Err(io::Error::from(ErrorKind::Interrupted))
 }
 
-/// The files under a folder of the system. A name that is an absolute path stands for itself. A directory is no
-/// file, and a path that the system can't have is no file's.
+/// The files under a folder of the system. A name that is an absolute path, or that has an empty segment or one of `.`
+/// and `..`, is no file's, and nothing is opened for it. Nor is a directory a file, nor does a path that the system can't
+/// have name one. A link is followed, wherever it leads.
 #[derive(Drop)]
 pub struct DirFolder<R> {
     files: R,
     folder: String,
+    asked: Asked,
     faults: FaultCount,
 }
 
@@ -189,11 +195,13 @@ impl<R: Files> DirFolder<R> {
     /// The files under the folder with this path. The empty path is the folder that the program runs in.
     pub fn new(files: R, folder: String) -> DirFolder<R>
         ensures told { ⟦<DirFolder<R> as Folder>⟧.files result ≡ None }
+        ensures asked { ⟦<DirFolder<R> as Folder>⟧.asked result ≡ [] }
         ensures faults { ⟦<DirFolder<R> as Folder>⟧.faults result ≡ 0 }
     {
         DirFolder {
             files,
             folder,
+            asked: Asked::new(),
             faults: FaultCount::new(),
         }
     }
@@ -202,14 +210,21 @@ impl<R: Files> DirFolder<R> {
 impl<R: Files> Folder for DirFolder<R> {
     ghost files = { λ _. None };
 
+    ghost asked = { λ f. f.asked };
+
     ghost faults = { λ f. f.faults };
 
-    fn read_file(
-        &mut self,
-        alloc: Global,
-        name: &str,
-        most: usize,
-    ) -> Result<Vec<u8>, FolderFault> {
+    fn read_file(&mut self, alloc: Global, name: &str, most: usize) -> Result<Vec<u8>, FolderFault>
+        ensures within { IfOk result (λ bytes. vec_len bytes ≤ most) }
+        ensures asked { self.new.asked ≡ self.old.asked ++ name.now ∷ [] }
+        ensures cause { HasCause Failed self.old.faults self.new.faults result }
+        ensures count { KeepsCount self.old.faults self.new.faults }
+        ensures outside { spec.leads_down name.now ≡ false → result ≡ Err Missing }
+    {
+        self.asked.add(name);
+        if !leads_down(name.as_bytes()) {
+            return Err(FolderFault::Missing);
+        }
         let path = Path::new(self.folder.as_str()).join(alloc, name)?;
         let fault = match open_file(&self.files, path.as_path()) {
             Ok(file) => {
@@ -228,6 +243,20 @@ impl<R: Files> Folder for DirFolder<R> {
         }
         Err(fault)
     }
+}
+
+/// Whether a name stays in the folder that it is looked up in.
+fn leads_down(name: &[u8]) -> bool
+    ensures { result ≡ spec.leads_down name.now }
+{
+    name.split(|byte| *byte == SLASH)
+        .all(|segment| is_entry(segment))
+}
+
+fn is_entry(segment: &[u8]) -> bool
+    ensures { result ≡ spec.is_entry segment.now }
+{
+    !segment.is_empty() && segment != b".".as_slice() && segment != b"..".as_slice()
 }
 
 /// Opens a file to read it.
