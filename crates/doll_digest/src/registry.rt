@@ -1,0 +1,198 @@
+//! The registry of names and framed texts.
+
+ghost use Rattle.std.specs.Prelude.{◌≡◌, ◌<◌, ◌++◌, map, take, length, slice_get, option_copied, Some, IfOk, OnOk, OnErr};
+ghost use Rattle.doll_text.specs.Gives.{Gives};
+ghost use Rattle.doll_digest.specs.Framing.{framed_text};
+ghost use Rattle.doll_digest.specs.Registries as spec;
+ghost use Rattle.doll_digest.specs.declared.registry.DigestFault.TheVariants.{Memory as NoMemory};
+
+use crate::digest::Digest;
+use crate::framing::put_net;
+use crate::hash::Hash16;
+use doll_text::{Memory, Text};
+use indexmap::{IndexMap, IndexSet};
+use std::alloc::{AllocFailed, Global};
+use std::marker::Model;
+
+/// The number of a name in a registry, which contracts see as this number.
+#[derive(Clone, Copy, PartialEq, Eq)]
+pub struct NameId {
+    number: usize,
+}
+
+impl Model for NameId {
+    ghost use Rattle.std.specs.Prelude.{ℕ};
+
+    ghost Value = { ℕ };
+
+    ghost view = { λ id. id.number };
+
+    ghost inverse = { λ number. record { number = number } };
+}
+
+/// Why a template has no digest.
+#[derive(Drop)]
+pub enum DigestFault {
+    /// Another framed text has the same hash.
+    Clash {
+        /// The framed text that the registry keeps.
+        old: Text,
+        /// The one that was to be entered.
+        new: Text,
+    },
+    /// No memory was found.
+    Memory,
+}
+
+impl From<Memory> for DigestFault {
+    ghost from_gives = { λ _ e. e ≡ NoMemory };
+
+    fn from(_error: Memory) -> DigestFault {
+        DigestFault::Memory
+    }
+}
+
+impl<T: Drop> From<AllocFailed<T>> for DigestFault {
+    ghost from_gives = { λ _ e. e ≡ NoMemory };
+
+    fn from(_error: AllocFailed<T>) -> DigestFault {
+        DigestFault::Memory
+    }
+}
+
+/// Names, each with its number, and framed texts, each under its digest. Both are only added to.
+#[derive(Drop)]
+pub struct Registry<H: Hash16> {
+    hash: H,
+    names: IndexSet<Vec<u8>>,
+    texts: IndexMap<Digest, Text>,
+}
+
+impl<H: Hash16> Model for Registry<H> {
+    ghost use Rattle.std.specs.Prelude.{map};
+    ghost use Rattle.doll_digest.specs.Registries.{Registered, AreKept};
+
+    ghost Value = { Registered };
+
+    ghost view = { λ r. record { names = map (λ name. name.items) r.names.keys; texts = r.texts.entries } };
+
+    ghost invariant = { λ r. AreKept H.hash_of r.texts.entries };
+}
+
+impl<H: Hash16> Registry<H> {
+    /// A registry of nothing yet. Takes no memory.
+    pub fn new(alloc: Global, hash: H) -> Registry<H>
+        ensures { result ≡ spec.empty }
+    {
+        Registry {
+            hash,
+            names: IndexSet::new(alloc),
+            texts: IndexMap::new(alloc),
+        }
+    }
+
+    /// The framed text under a digest, or none where no template with this digest was entered.
+    pub fn text(&self, digest: Digest) -> Option<&Text>
+        ensures { option_copied result ≡ spec.text_under self.now.texts digest }
+    {
+        self.texts.get(&digest)
+    }
+
+    /// The number of a name, the same for the same name: the place where it came, counted from 0. Only a new name takes memory.
+    pub fn name(&mut self, alloc: Global, name: &[u8]) -> Result<NameId, Memory>
+        ensures number { IfOk result (λ id. id ≡ spec.number_of self.old.names name.now) }
+        ensures named { IfOk result (λ id. slice_get self.new.names id ≡ Some name.now) }
+        ensures names { OnOk result (self.new ≡ spec.with_name self.old name.now) }
+        ensures same { OnErr result (self.new ≡ self.old) }
+    {
+        let number = number_in(alloc, &mut self.names, name)?;
+        Ok(NameId { number })
+    }
+
+    /// Enters a template: the hash of its framed text, which the registry keeps from then on. A dependency is a name's number and
+    /// the digest of the template with this name. A refusal changes nothing.
+    pub fn enter(
+        &mut self,
+        alloc: Global,
+        source: &[u8],
+        dependencies: &[(NameId, Digest)],
+    ) -> Result<Digest, DigestFault>
+        requires numbers { spec.AreNumbered self.old.names dependencies.now }
+        requires ascend { spec.NamesAscend self.old.names dependencies.now }
+        ensures answer { Gives NoMemory
+            (spec.entered H.hash_of self.old (spec.text_of self.old source.now dependencies.now)) result }
+        ensures kept { OnOk result
+            (self.new ≡ spec.with_text H.hash_of self.old (spec.text_of self.old source.now dependencies.now)) }
+        ensures same { OnErr result (self.new ≡ self.old) }
+    {
+        let text = self.framed(alloc, source, dependencies)?;
+        self.keep(alloc, text)
+    }
+
+    #[tactic(auto, unfolding(crate::specs::Framing::framed_text))]
+    fn framed(
+        &self,
+        alloc: Global,
+        source: &[u8],
+        dependencies: &[(NameId, Digest)],
+    ) -> Result<Text, Memory>
+        requires { spec.AreNumbered self.now.names dependencies.now }
+        ensures { IfOk result (λ text. text ≡ spec.text_of self.now source.now dependencies.now) }
+    {
+        let mut out = Vec::new(alloc);
+        put_net(source, &mut out)?;
+        for (id, digest) in dependencies {
+            put_net(self.name_of(*id), &mut out)?;
+            put_net(&digest.hex(), &mut out)?;
+        }
+        Ok(Text::from_vec(out))
+    }
+
+    fn keep(&mut self, alloc: Global, text: Text) -> Result<Digest, DigestFault>
+        ensures answer { Gives NoMemory (spec.entered H.hash_of self.old text) result }
+        ensures kept { OnOk result (self.new ≡ spec.with_text H.hash_of self.old text) }
+        ensures same { OnErr result (self.new ≡ self.old) }
+    {
+        let digest = Digest::from_bytes(self.hash.hash(text.as_bytes()));
+        if let Some(kept) = self.texts.get(&digest) {
+            return same_text(alloc, digest, kept, text);
+        }
+        self.texts.insert(digest, text)?;
+        Ok(digest)
+    }
+
+    /// The name with a number.
+    pub fn name_of(&self, id: NameId) -> &[u8]
+        requires { id < length self.now.names }
+        ensures { result.now ≡ spec.name_at self.now.names id }
+    {
+        self.names[id.number].as_slice()
+    }
+}
+
+/// The place of a name, which is added at the end where it isn't there.
+fn number_in(alloc: Global, names: &mut IndexSet<Vec<u8>>, name: &[u8]) -> Result<usize, Memory>
+    ensures number { IfOk result (λ number.
+        number ≡ spec.number_of (map (λ name. name.items) names.old.keys) name.now) }
+    ensures names { OnOk result (map (λ name. name.items) names.new.keys
+        ≡ spec.name_added (map (λ name. name.items) names.old.keys) name.now) }
+    ensures same { OnErr result (names.new.keys ≡ names.old.keys) }
+{
+    if let Some(number) = names.get_index_of(name) {
+        return Ok(number);
+    }
+    let (number, _) = names.insert_full(Vec::from_slice(alloc, name)?)?;
+    Ok(number)
+}
+
+fn same_text(alloc: Global, digest: Digest, old: &Text, new: Text) -> Result<Digest, DigestFault>
+    ensures { Gives NoMemory (spec.compared digest old.now new) result }
+{
+    if old.as_bytes() == new.as_bytes() {
+        return Ok(digest);
+    }
+    Err(DigestFault::Clash {
+        old: old.copy(alloc)?,
+        new,
+    })
+}
