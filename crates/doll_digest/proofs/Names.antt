@@ -1,10 +1,10 @@
 -- Names by their numbers.
-use Rattle.std.proofs.Common.{◌≡◌, ℕ, ◌+◌, suc, Bool, true, false, cond, not, ◌||◌, nat_lt, List, [], ◌∷◌, ◌++◌, map, length, position, slice_get, None, Some, unwrap_or, if◌then◌else◌, refl, sym, ap, ◌∙◌, arith}
+use Rattle.std.proofs.Common.{◌≡◌, ◌<◌, ℕ, ◌+◌, suc, Bool, true, false, cond, not, ◌||◌, nat_lt, List, [], ◌∷◌, ◌++◌, map, length, length-append, position, slice_get, None, Some, unwrap_or, if◌then◌else◌, refl, sym, ap, ◌∙◌, arith}
 use Rattle.std.specs.List.{list_any, position_or_len}
 use Rattle.std.specs.Str.{bytes_eq}
-use Rattle.std.proofs.lemmas.List.{map-append}
+use Rattle.std.proofs.lemmas.List.{get_or_append_left, map-append}
 use Rattle.std.proofs.lemmas.Slice.Eq.{bytes_eq-Decides}
-use Rattle.doll_digest.specs.Registries.{number_of, name_added}
+use Rattle.doll_digest.specs.Registries.{NumbersStay, name_added, name_at, number_of}
 
 -- ---- names that are seen by a view
 
@@ -52,3 +52,11 @@ named_at (x ∷ xs) name = by (bytes_eq name x) refl (named_at xs name)
     by : (b : Bool) → bytes_eq name x ≡ b → slice_get (name_added xs name) (number_of xs name) ≡ Some name → slice_get (if b || list_any (bytes_eq name) xs then x ∷ xs else x ∷ xs ++ name ∷ []) (cond (not b) (1 + number_of xs name) 0) ≡ Some name
     by true e h = ap Some (sym ((bytes_eq-Decides name x).0 e))
     by false e h = later (list_any (bytes_eq name) xs) (number_of xs name) h
+
+-- names that are added leave the others at their numbers
+pub numbers_stay : (names : List (List ℕ)) (name : List ℕ) → NumbersStay names (name_added names name)
+numbers_stay names name number within = by (list_any (bytes_eq name) names)
+  where
+    by : (b : Bool) → let new = if b then names else names ++ name ∷ [] in (number < length new) × (name_at new number ≡ name_at names number)
+    by true = (within, refl)
+    by false = (omega (arith, length-append names (name ∷ [])), get_or_append_left names (name ∷ []) [] number within)

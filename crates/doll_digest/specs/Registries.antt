@@ -1,9 +1,9 @@
 -- What a registry holds, and what entering a template gives and leaves (this project's own).
-use Rattle.std.specs.Prelude.{◌≡◌, ◌<◌, ℕ, List, [], ◌∷◌, ◌++◌, map, length, Option, None, Some, Result, Ok, Err, if◌then◌else◌}
+use Rattle.std.specs.Prelude.{◌≡◌, ◌<◌, ℕ, List, [], ◌∷◌, ◌++◌, map, length, Contains, Option, None, Some, Result, Ok, Err, if◌then◌else◌}
 use Rattle.std.specs.Cmp.Lexicographic.{slice_cmp}
 use Rattle.std.specs.List.{list_any, position_or_len, slice_index_or, AllByRecursion, IsDistinct}
 use Rattle.std.specs.List.Sorted.{IsStrictlySortedBy}
-use Rattle.std.specs.Map.{lookup, keys_of}
+use Rattle.std.specs.Map.{lookup, keys_of, values_of}
 use Rattle.std.specs.Ordering.{nat_cmp}
 use Rattle.std.specs.Str.{bytes_eq}
 use Rattle.doll_digest.specs.Framing.{framed_text}
@@ -36,6 +36,10 @@ with_name registry name = record { names = name_added registry.names name; texts
 -- the name with a number
 abbrev pub name_at : List (List ℕ) → ℕ → List ℕ
 name_at names number = slice_index_or names number []
+
+-- Each number has the name that it had.
+abbrev pub NumbersStay : List (List ℕ) → List (List ℕ) → Type 0
+NumbersStay old new = (number : ℕ) → number < length old → (number < length new) × (name_at new number ≡ name_at old number)
 
 -- ---- dependencies
 
@@ -86,3 +90,11 @@ text_added texts digest text (Some old) = texts
 -- the registry after a framed text was entered
 abbrev pub with_text : (List ℕ → List ℕ) → Registered → List ℕ → Registered
 with_text hash registry text = record { names = registry.names; texts = text_added registry.texts (hash text) text (text_under registry.texts (hash text)) }
+
+-- Each text that is kept under a digest stays kept under it.
+abbrev pub TextsStay : List (List ℕ × List ℕ) → List (List ℕ × List ℕ) → Type 0
+TextsStay old new = (digest text : List ℕ) → text_under old digest ≡ Some text → text_under new digest ≡ Some text
+
+-- Kept texts with the same hash are equal.
+abbrev pub AreApart : (List ℕ → List ℕ) → List (List ℕ × List ℕ) → Type 0
+AreApart hash texts = (a b : List ℕ) → Contains (values_of texts) a → Contains (values_of texts) b → hash a ≡ hash b → a ≡ b

@@ -1,8 +1,9 @@
 //! Framed texts.
 
 ghost use Rattle.std.specs.Prelude.{◌≡◌, ◌++◌, OnOk};
-ghost use Rattle.doll_digest.specs.Framing.{net};
+ghost use Rattle.doll_digest.specs.Framing.{net, framed_dependency};
 
+use crate::digest::Digest;
 use doll_text::Memory;
 use itoa::Buffer;
 
@@ -11,6 +12,14 @@ const COLON: u8 = b':';
 
 /// What stands after these bytes.
 const COMMA: u8 = b',';
+
+/// Appends a dependency: its name, and its digest in digits. After a refusal some of it may stand there.
+pub(crate) fn put_dependency(name: &[u8], digest: Digest, out: &mut Vec<u8>) -> Result<(), Memory>
+    ensures { OnOk result (out.new.items ≡ out.old.items ++ framed_dependency (name.now, digest)) }
+{
+    put_net(name, out)?;
+    put_net(&digest.hex(), out)
+}
 
 /// Appends bytes behind their length, so that where they end can be told. After a refusal some of it may stand there.
 #[tactic(auto, unfolding(crate::specs::Framing::net))]

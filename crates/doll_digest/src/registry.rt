@@ -1,13 +1,16 @@
 //! The registry of names and framed texts.
 
 ghost use Rattle.std.specs.Prelude.{◌≡◌, ◌<◌, ◌++◌, map, take, length, slice_get, option_copied, Some, IfOk, OnOk, OnErr};
+ghost use Rattle.std.specs.List.{IsDistinct};
+ghost use Rattle.std.specs.Map.{keys_of};
+ghost use Rattle.std.specs.Str.{bytes_eq};
 ghost use Rattle.doll_text.specs.Gives.{Gives};
 ghost use Rattle.doll_digest.specs.Framing.{framed_text};
 ghost use Rattle.doll_digest.specs.Registries as spec;
 ghost use Rattle.doll_digest.specs.declared.registry.DigestFault.TheVariants.{Memory as NoMemory};
 
 use crate::digest::Digest;
-use crate::framing::put_net;
+use crate::framing::{put_dependency, put_net};
 use crate::hash::Hash16;
 use doll_text::{Memory, Text};
 use indexmap::{IndexMap, IndexSet};
@@ -91,19 +94,14 @@ impl<H: Hash16> Registry<H> {
         }
     }
 
-    /// The framed text under a digest, or none where no template with this digest was entered.
-    pub fn text(&self, digest: Digest) -> Option<&Text>
-        ensures { option_copied result ≡ spec.text_under self.now.texts digest }
-    {
-        self.texts.get(&digest)
-    }
-
     /// The number of a name, the same for the same name: the place where it came, counted from 0. Only a new name takes memory.
     pub fn name(&mut self, alloc: Global, name: &[u8]) -> Result<NameId, Memory>
         ensures number { IfOk result (λ id. id ≡ spec.number_of self.old.names name.now) }
-        ensures named { IfOk result (λ id. slice_get self.new.names id ≡ Some name.now) }
-        ensures names { OnOk result (self.new ≡ spec.with_name self.old name.now) }
+        ensures at { IfOk result (λ id. slice_get self.new.names id ≡ Some name.now) }
+        ensures named { OnOk result (self.new ≡ spec.with_name self.old name.now) }
         ensures same { OnErr result (self.new ≡ self.old) }
+        ensures numbers { spec.NumbersStay self.old.names self.new.names }
+        ensures texts { self.new.texts ≡ self.old.texts }
     {
         let number = number_in(alloc, &mut self.names, name)?;
         Ok(NameId { number })
@@ -121,53 +119,55 @@ impl<H: Hash16> Registry<H> {
         requires ascend { spec.NamesAscend self.old.names dependencies.now }
         ensures answer { Gives NoMemory
             (spec.entered H.hash_of self.old (spec.text_of self.old source.now dependencies.now)) result }
-        ensures kept { OnOk result
-            (self.new ≡ spec.with_text H.hash_of self.old (spec.text_of self.old source.now dependencies.now)) }
+        ensures entered { OnOk result (self.new
+            ≡ spec.with_text H.hash_of self.old (spec.text_of self.old source.now dependencies.now)) }
         ensures same { OnErr result (self.new ≡ self.old) }
+        ensures kept { IfOk result (λ digest. spec.text_under self.new.texts digest
+            ≡ Some (spec.text_of self.old source.now dependencies.now)) }
+        ensures stay { spec.TextsStay self.old.texts self.new.texts }
+        ensures names { self.new.names ≡ self.old.names }
+        ensures apart { spec.AreApart H.hash_of self.new.texts }
     {
-        let text = self.framed(alloc, source, dependencies)?;
+        let text = framed(alloc, &self.names, source, dependencies)?;
         self.keep(alloc, text)
-    }
-
-    #[tactic(auto, unfolding(crate::specs::Framing::framed_text))]
-    fn framed(
-        &self,
-        alloc: Global,
-        source: &[u8],
-        dependencies: &[(NameId, Digest)],
-    ) -> Result<Text, Memory>
-        requires { spec.AreNumbered self.now.names dependencies.now }
-        ensures { IfOk result (λ text. text ≡ spec.text_of self.now source.now dependencies.now) }
-    {
-        let mut out = Vec::new(alloc);
-        put_net(source, &mut out)?;
-        for (id, digest) in dependencies {
-            put_net(self.name_of(*id), &mut out)?;
-            put_net(&digest.hex(), &mut out)?;
-        }
-        Ok(Text::from_vec(out))
     }
 
     fn keep(&mut self, alloc: Global, text: Text) -> Result<Digest, DigestFault>
         ensures answer { Gives NoMemory (spec.entered H.hash_of self.old text) result }
-        ensures kept { OnOk result (self.new ≡ spec.with_text H.hash_of self.old text) }
+        ensures entered { OnOk result (self.new ≡ spec.with_text H.hash_of self.old text) }
         ensures same { OnErr result (self.new ≡ self.old) }
+        ensures apart { spec.AreApart H.hash_of self.new.texts }
     {
         let digest = Digest::from_bytes(self.hash.hash(text.as_bytes()));
-        if let Some(kept) = self.texts.get(&digest) {
-            return same_text(alloc, digest, kept, text);
-        }
-        self.texts.insert(digest, text)?;
-        Ok(digest)
+        keep_in(alloc, &mut self.texts, digest, text)
     }
+}
 
-    /// The name with a number.
-    pub fn name_of(&self, id: NameId) -> &[u8]
-        requires { id < length self.now.names }
-        ensures { result.now ≡ spec.name_at self.now.names id }
-    {
-        self.names[id.number].as_slice()
+/// The framed text of a template, whose dependencies are these names.
+#[tactic(auto, unfolding(crate::specs::Framing::framed_text))]
+fn framed(
+    alloc: Global,
+    names: &IndexSet<Vec<u8>>,
+    source: &[u8],
+    dependencies: &[(NameId, Digest)],
+) -> Result<Text, Memory>
+    requires { spec.AreNumbered (map (λ name. name.items) names.now.keys) dependencies.now }
+    ensures { IfOk result (λ text. text
+        ≡ framed_text source.now (spec.named (map (λ name. name.items) names.now.keys) dependencies.now)) }
+{
+    let mut out = Vec::new(alloc);
+    put_net(source, &mut out)?;
+    for (id, digest) in dependencies {
+        put_dependency(name_at(names, *id), *digest, &mut out)?;
     }
+    Ok(Text::from_vec(out))
+}
+
+fn name_at(names: &IndexSet<Vec<u8>>, id: NameId) -> &[u8]
+    requires { id < length names.now.keys }
+    ensures { result.now ≡ spec.name_at (map (λ name. name.items) names.now.keys) id }
+{
+    names[id.number].as_slice()
 }
 
 /// The place of a name, which is added at the end where it isn't there.
@@ -183,6 +183,28 @@ fn number_in(alloc: Global, names: &mut IndexSet<Vec<u8>>, name: &[u8]) -> Resul
     }
     let (number, _) = names.insert_full(Vec::from_slice(alloc, name)?)?;
     Ok(number)
+}
+
+/// Keeps a text under a digest, which it is the only one to have.
+fn keep_in(
+    alloc: Global,
+    texts: &mut IndexMap<Digest, Text>,
+    digest: Digest,
+    text: Text,
+) -> Result<Digest, DigestFault>
+    ensures answer { Gives NoMemory
+        (spec.answered digest text (spec.text_under texts.old.entries digest)) result }
+    ensures entered { OnOk result (texts.new.entries
+        ≡ spec.text_added texts.old.entries digest text (spec.text_under texts.old.entries digest)) }
+    ensures same { OnErr result (texts.new.entries ≡ texts.old.entries) }
+    ensures unique { IsDistinct bytes_eq (keys_of texts.old.entries)
+        → IsDistinct bytes_eq (keys_of texts.new.entries) }
+{
+    if let Some(kept) = texts.get(&digest) {
+        return same_text(alloc, digest, kept, text);
+    }
+    texts.insert(digest, text)?;
+    Ok(digest)
 }
 
 fn same_text(alloc: Global, digest: Digest, old: &Text, new: Text) -> Result<Digest, DigestFault>
