@@ -128,7 +128,7 @@ impl Bytes {
     }
 }
 
-/// Ids of records of one model.
+/// Numbers in order, such as the ids of records of one model.
 #[derive(Drop)]
 pub struct Ids {
     ids: Vec<u32>,
