@@ -164,7 +164,7 @@ fn tree_in(alloc: Global, text: &str) -> Result<Tree, Refusal>
     ensures exact { Gives Refusal.Memory (tree_in text.now) result }
     ensures alone { IfOk result (λ tree. standing.tree_alone tree ≡ true) }
 {
-    let tree = match parse_template(alloc, text) {
+    let tree = match parse_template(alloc, text.as_bytes()) {
         Ok(tree) => tree,
         Err(ErbFault::Memory) => return Err(Refusal::Memory),
         Err(_) => return Err(view_refusal(Kind::BadTemplate)),

@@ -46,8 +46,8 @@ pub struct Tag {
 /// The pieces of a template, in its order.
 pub type Tags = Items<Tag>;
 
-/// Cuts a template into its pieces: texts and tags. The first tag that isn't closed or isn't known is the fault.
-pub fn cut(alloc: Global, text: &str) -> Result<Tags, ErbFault>
+/// Cuts the bytes of a template into its pieces: texts and tags. The first tag that isn't closed or isn't known is the fault.
+pub fn cut(alloc: Global, text: &[u8]) -> Result<Tags, ErbFault>
     requires { length text.now ≤ LONGEST_SOURCE }
     ensures exact { Gives ErbFault.Memory (cut_of text.now) result }
     // No byte is left out, and none stands in two pieces.
@@ -55,7 +55,7 @@ pub fn cut(alloc: Global, text: &str) -> Result<Tags, ErbFault>
 {
     let mut tags = Items::new(alloc);
     let mut at = 0;
-    let mut rest = text.as_bytes();
+    let mut rest = text;
     while !rest.is_empty() {
         let tag = piece_at(at, rest)?;
         rest = rest.split_at((tag.span.to - at) as usize).1;

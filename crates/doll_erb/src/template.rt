@@ -30,9 +30,9 @@ struct Reading {
     number: u32,
 }
 
-/// The tree of a template, or its first fault. The faults of the cut come first; of the others the first in the text, and at
+/// The tree of a template of these bytes, or its first fault. The faults of the cut come first; of the others the first in the text, and at
 /// last the innermost block that isn't closed.
-pub fn parse_template(alloc: Global, text: &str) -> Result<Tree, ErbFault>
+pub fn parse_template(alloc: Global, text: &[u8]) -> Result<Tree, ErbFault>
     requires { length text.now ≤ LONGEST_SOURCE }
     // What is accepted is a template of the grammar of blocks with this tree.
     ensures found { IfOk result (λ tree. IsTemplate text.now tree) }
@@ -57,12 +57,12 @@ pub fn tags_are_sentences()
 {}
 
 #[tactic(auto, unfolding(crate::specs::Trees::tree_of, crate::specs::Trees::whole))]
-fn read_template(alloc: Global, text: &str) -> Result<Tree, ErbFault>
+fn read_template(alloc: Global, text: &[u8]) -> Result<Tree, ErbFault>
     requires { length text.now ≤ LONGEST_SOURCE }
     ensures { Gives ErbFault.Memory (spec.tree_of text.now) result }
 {
     let tags = cut(alloc, text)?;
-    let reading = read_pieces(alloc, text.as_bytes(), tags.as_slice())?;
+    let reading = read_pieces(alloc, text, tags.as_slice())?;
     at_end(reading)
 }
 

@@ -119,7 +119,7 @@ fn template_fault(alloc: Global, text: &str) -> Result<Option<ErbFault>, Fail> {
     if text.len() > LONGEST {
         return Err(Fail::from("a row is short"));
     }
-    Ok(parse_template(alloc, text).err())
+    Ok(parse_template(alloc, text.as_bytes()).err())
 }
 
 /// The fault of an expression, none where it has none.
