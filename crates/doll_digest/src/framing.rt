@@ -1,7 +1,7 @@
 //! Framed texts.
 
 ghost use Rattle.std.specs.Prelude.{◌≡◌, ◌++◌, OnOk};
-ghost use Rattle.doll_digest.specs.Framing.{net, framed_dependency};
+ghost use Rattle.doll_digest.specs.Framing.{OneTemplate, framed_dependency, net};
 
 use crate::digest::Digest;
 use doll_text::Memory;
@@ -33,3 +33,8 @@ pub(crate) fn put_net(bytes: &[u8], out: &mut Vec<u8>) -> Result<(), Memory>
     out.push(COMMA)?;
     Ok(())
 }
+
+/// No two templates have the same framed text: it tells the source, and each dependency by its name and its digest.
+pub fn one_template()
+    ensures { OneTemplate }
+{}

@@ -8,5 +8,6 @@ pub mod hash;
 pub mod registry;
 
 pub use digest::Digest;
+pub use framing::one_template;
 pub use hash::{Hash16, Md5Hash, WeakHash};
 pub use registry::{DigestFault, NameId, Registry};

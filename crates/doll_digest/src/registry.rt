@@ -119,6 +119,8 @@ impl<H: Hash16> Registry<H> {
         requires ascend { spec.NamesAscend self.old.names dependencies.now }
         ensures answer { Gives NoMemory
             (spec.entered H.hash_of self.old (spec.text_of self.old source.now dependencies.now)) result }
+        ensures digest { IfOk result (λ digest. digest
+            ≡ H.hash_of (spec.text_of self.old source.now dependencies.now)) }
         ensures entered { OnOk result (self.new
             ≡ spec.with_text H.hash_of self.old (spec.text_of self.old source.now dependencies.now)) }
         ensures same { OnErr result (self.new ≡ self.old) }
