@@ -67,10 +67,10 @@ digits_fit digest len = omega (arith, length-encode_with lower_digits digest, le
 -- a dependency, and what stands behind it
 first_dependency : (a b : List ℕ × List ℕ) (r s : List ℕ) → IsDependency a → IsDependency b → framed_dependency a ++ r ≡ framed_dependency b ++ s → (a ≡ b) × (r ≡ s)
 first_dependency a b r s of_a of_b e =
-    let names = first_net a.0 b.0 (net (hex_digits a.1) ++ r) (net (hex_digits b.1) ++ s) of_a.name of_b.name
+    let names = first_net a.0 b.0 (net (hex_digits a.1) ++ r) (net (hex_digits b.1) ++ s) of_a.0 of_b.0
     (sym (append_assoc (net a.0) (net (hex_digits a.1)) r) ∙ e ∙ append_assoc (net b.0) (net (hex_digits b.1)) s) in
-    let digests = first_net (hex_digits a.1) (hex_digits b.1) r s (digits_fit a.1 of_a.digest) (digits_fit b.1 of_b.digest) names.1 in
-    let same = same_bytes a.1 b.1 of_a.bytes of_b.bytes digests.0 in
+    let digests = first_net (hex_digits a.1) (hex_digits b.1) r s (digits_fit a.1 of_a.1.0) (digits_fit b.1 of_b.1.0) names.1 in
+    let same = same_bytes a.1 b.1 of_a.1.1 of_b.1.1 digests.0 in
     ((λ i. (names.0 i, same i)), digests.1)
 
 some_bytes : (a : List ℕ × List ℕ) (r : List ℕ) → 0 < length (framed_dependency a ++ r)

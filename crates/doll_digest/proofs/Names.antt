@@ -3,6 +3,7 @@ use Rattle.std.proofs.Common.{◌≡◌, ◌<◌, ℕ, ◌+◌, suc, Bool, true,
 use Rattle.std.specs.List.{list_any, position_or_len}
 use Rattle.std.specs.Str.{bytes_eq}
 use Rattle.std.proofs.lemmas.List.{get_or_append_left, map-append}
+use Rattle.std.proofs.lemmas.Option.{get_or_from_slice_get, slice_get_within}
 use Rattle.std.proofs.lemmas.Slice.Eq.{bytes_eq-Decides}
 use Rattle.doll_digest.specs.Registries.{NumbersStay, name_added, name_at, number_of}
 
@@ -41,9 +42,9 @@ one_more : (n : ℕ) → 1 + n ≡ suc n
 one_more n = omega arith
 
 -- the name stands at its number
-pub named_at : (names : List (List ℕ)) (name : List ℕ) → slice_get (name_added names name) (number_of names name) ≡ Some name
-named_at [] name = refl
-named_at (x ∷ xs) name = by (bytes_eq name x) refl (named_at xs name)
+stands_at : (names : List (List ℕ)) (name : List ℕ) → slice_get (name_added names name) (number_of names name) ≡ Some name
+stands_at [] name = refl
+stands_at (x ∷ xs) name = by (bytes_eq name x) refl (stands_at xs name)
   where
     later : (b : Bool) (n : ℕ) → slice_get (if b then xs else xs ++ name ∷ []) n ≡ Some name → slice_get (if b then x ∷ xs else x ∷ xs ++ name ∷ []) (1 + n) ≡ Some name
     later true n h = ap (slice_get (x ∷ xs)) (one_more n) ∙ h
@@ -52,6 +53,12 @@ named_at (x ∷ xs) name = by (bytes_eq name x) refl (named_at xs name)
     by : (b : Bool) → bytes_eq name x ≡ b → slice_get (name_added xs name) (number_of xs name) ≡ Some name → slice_get (if b || list_any (bytes_eq name) xs then x ∷ xs else x ∷ xs ++ name ∷ []) (cond (not b) (1 + number_of xs name) 0) ≡ Some name
     by true e h = ap Some (sym ((bytes_eq-Decides name x).0 e))
     by false e h = later (list_any (bytes_eq name) xs) (number_of xs name) h
+
+pub number_within : (names : List (List ℕ)) (name : List ℕ) → number_of names name < length (name_added names name)
+number_within names name = slice_get_within (name_added names name) (number_of names name) name (stands_at names name)
+
+pub named_at : (names : List (List ℕ)) (name : List ℕ) → name_at (name_added names name) (number_of names name) ≡ name
+named_at names name = get_or_from_slice_get (name_added names name) (number_of names name) name [] (stands_at names name)
 
 -- names that are added leave the others at their numbers
 pub numbers_stay : (names : List (List ℕ)) (name : List ℕ) → NumbersStay names (name_added names name)

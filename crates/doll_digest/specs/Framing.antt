@@ -21,11 +21,13 @@ framed_dependency dependency = net dependency.0 ++ net (hex_digits dependency.1)
 unfoldable pub framed_text : List ℕ → List (List ℕ × List ℕ) → List ℕ
 framed_text source dependencies = net source ++ flat_map framed_dependency dependencies
 
--- a dependency as a registry has it: a name whose length is a number of 64 bits, and 16 bytes
-pub record IsDependency (dependency : List ℕ × List ℕ) : Type 0 where
-  pub name : length dependency.0 < 2 ^ 64
-  pub digest : length dependency.1 ≡ 16
-  pub bytes : IsBytes dependency.1
+-- sixteen bytes
+abbrev pub IsDigest : List ℕ → Type 0
+IsDigest digest = (length digest ≡ 16) × IsBytes digest
+
+-- a name whose length is a number of 64 bits, and a digest
+abbrev pub IsDependency : List ℕ × List ℕ → Type 0
+IsDependency dependency = (length dependency.0 < 2 ^ 64) × IsDigest dependency.1
 
 -- Templates with equal framed texts have equal sources and dependencies.
 abbrev pub OneTemplate : Type 0

@@ -1,8 +1,9 @@
 -- What a registry holds, and what entering a template gives and leaves (this project's own).
-use Rattle.std.specs.Prelude.{◌≡◌, ◌<◌, ℕ, List, [], ◌∷◌, ◌++◌, map, length, Contains, Option, None, Some, Result, Ok, Err, if◌then◌else◌}
+use Rattle.std.specs.Prelude.{◌≡◌, ◌<◌, ℕ, List, [], ◌∷◌, ◌++◌, map, length, Contains, Option, None, Some, Vec, Result, Ok, Err, if◌then◌else◌}
 use Rattle.std.specs.Cmp.Lexicographic.{slice_cmp}
 use Rattle.std.specs.List.{list_any, position_or_len, slice_index_or, AllByRecursion, IsDistinct}
 use Rattle.std.specs.List.Sorted.{IsStrictlySortedBy}
+use Rattle.std.specs.declared.alloc.Global.{Global}
 use Rattle.std.specs.Map.{lookup, keys_of, values_of}
 use Rattle.std.specs.Ordering.{nat_cmp}
 use Rattle.std.specs.Str.{bytes_eq}
@@ -20,6 +21,10 @@ abbrev pub empty : Registered
 empty = record { names = []; texts = [] }
 
 -- ---- names
+
+-- the names that a set holds, by its keys
+abbrev pub names_in : List (Vec ℕ Global) → List (List ℕ)
+names_in keys = map (λ key. key.items) keys
 
 -- the number of a name: the place where it stands, or comes to stand
 abbrev pub number_of : List (List ℕ) → List ℕ → ℕ

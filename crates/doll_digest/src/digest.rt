@@ -1,7 +1,7 @@
 //! Digests.
 
-ghost use Rattle.std.specs.Prelude.{◌≡◌, ◌++◌, length, OnOk, OnErr};
-ghost use Rattle.doll_digest.specs.Framing.{hex_digits};
+ghost use Rattle.std.specs.Prelude.{◌≡◌, ◌++◌, OnOk, OnErr};
+ghost use Rattle.doll_digest.specs.Framing.{IsDigest, hex_digits};
 
 use doll_text::Memory;
 use std::marker::Model;
@@ -28,7 +28,8 @@ impl Model for Digest {
 impl Digest {
     /// The digest with these bytes.
     pub fn from_bytes(bytes: [u8; 16]) -> Digest
-        ensures { result ≡ bytes }
+        ensures bytes { result ≡ bytes }
+        ensures digest { IsDigest result }
     {
         Digest { bytes }
     }
@@ -36,7 +37,7 @@ impl Digest {
     /// Its bytes.
     pub fn bytes(self) -> [u8; 16]
         ensures bytes { result ≡ self }
-        ensures len { length result ≡ 16 }
+        ensures digest { IsDigest self }
     {
         self.bytes
     }

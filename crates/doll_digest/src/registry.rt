@@ -5,7 +5,7 @@ ghost use Rattle.std.specs.List.{IsDistinct};
 ghost use Rattle.std.specs.Map.{keys_of};
 ghost use Rattle.std.specs.Str.{bytes_eq};
 ghost use Rattle.doll_text.specs.Gives.{Gives};
-ghost use Rattle.doll_digest.specs.Framing.{framed_text};
+ghost use Rattle.doll_digest.specs.Framing.{IsDigest, framed_text};
 ghost use Rattle.doll_digest.specs.Registries as spec;
 ghost use Rattle.doll_digest.specs.declared.registry.DigestFault.TheVariants.{Memory as NoMemory};
 
@@ -72,12 +72,11 @@ pub struct Registry<H: Hash16> {
 }
 
 impl<H: Hash16> Model for Registry<H> {
-    ghost use Rattle.std.specs.Prelude.{map};
-    ghost use Rattle.doll_digest.specs.Registries.{Registered, AreKept};
+    ghost use Rattle.doll_digest.specs.Registries.{Registered, AreKept, names_in};
 
     ghost Value = { Registered };
 
-    ghost view = { λ r. record { names = map (λ name. name.items) r.names.keys; texts = r.texts.entries } };
+    ghost view = { λ r. record { names = names_in r.names.keys; texts = r.texts.entries } };
 
     ghost invariant = { λ r. AreKept H.hash_of r.texts.entries };
 }
@@ -97,7 +96,8 @@ impl<H: Hash16> Registry<H> {
     /// The number of a name, the same for the same name: the place where it came, counted from 0. Only a new name takes memory.
     pub fn name(&mut self, alloc: Global, name: &[u8]) -> Result<NameId, Memory>
         ensures number { IfOk result (λ id. id ≡ spec.number_of self.old.names name.now) }
-        ensures at { IfOk result (λ id. slice_get self.new.names id ≡ Some name.now) }
+        ensures within { IfOk result (λ id. id < length self.new.names) }
+        ensures at { IfOk result (λ id. spec.name_at self.new.names id ≡ name.now) }
         ensures named { OnOk result (self.new ≡ spec.with_name self.old name.now) }
         ensures same { OnErr result (self.new ≡ self.old) }
         ensures numbers { spec.NumbersStay self.old.names self.new.names }
@@ -119,8 +119,9 @@ impl<H: Hash16> Registry<H> {
         requires ascend { spec.NamesAscend self.old.names dependencies.now }
         ensures answer { Gives NoMemory
             (spec.entered H.hash_of self.old (spec.text_of self.old source.now dependencies.now)) result }
-        ensures digest { IfOk result (λ digest. digest
+        ensures hash { IfOk result (λ digest. digest
             ≡ H.hash_of (spec.text_of self.old source.now dependencies.now)) }
+        ensures digest { IfOk result IsDigest }
         ensures entered { OnOk result (self.new
             ≡ spec.with_text H.hash_of self.old (spec.text_of self.old source.now dependencies.now)) }
         ensures same { OnErr result (self.new ≡ self.old) }
@@ -136,6 +137,7 @@ impl<H: Hash16> Registry<H> {
 
     fn keep(&mut self, alloc: Global, text: Text) -> Result<Digest, DigestFault>
         ensures answer { Gives NoMemory (spec.entered H.hash_of self.old text) result }
+        ensures digest { IfOk result IsDigest }
         ensures entered { OnOk result (self.new ≡ spec.with_text H.hash_of self.old text) }
         ensures same { OnErr result (self.new ≡ self.old) }
         ensures apart { spec.AreApart H.hash_of self.new.texts }
@@ -153,9 +155,9 @@ fn framed(
     source: &[u8],
     dependencies: &[(NameId, Digest)],
 ) -> Result<Text, Memory>
-    requires { spec.AreNumbered (map (λ name. name.items) names.now.keys) dependencies.now }
+    requires { spec.AreNumbered (spec.names_in names.now.keys) dependencies.now }
     ensures { IfOk result (λ text. text
-        ≡ framed_text source.now (spec.named (map (λ name. name.items) names.now.keys) dependencies.now)) }
+        ≡ framed_text source.now (spec.named (spec.names_in names.now.keys) dependencies.now)) }
 {
     let mut out = Vec::new(alloc);
     put_net(source, &mut out)?;
@@ -167,7 +169,7 @@ fn framed(
 
 fn name_at(names: &IndexSet<Vec<u8>>, id: NameId) -> &[u8]
     requires { id < length names.now.keys }
-    ensures { result.now ≡ spec.name_at (map (λ name. name.items) names.now.keys) id }
+    ensures { result.now ≡ spec.name_at (spec.names_in names.now.keys) id }
 {
     names[id.number].as_slice()
 }
@@ -175,9 +177,9 @@ fn name_at(names: &IndexSet<Vec<u8>>, id: NameId) -> &[u8]
 /// The place of a name, which is added at the end where it isn't there.
 fn number_in(alloc: Global, names: &mut IndexSet<Vec<u8>>, name: &[u8]) -> Result<usize, Memory>
     ensures number { IfOk result (λ number.
-        number ≡ spec.number_of (map (λ name. name.items) names.old.keys) name.now) }
-    ensures names { OnOk result (map (λ name. name.items) names.new.keys
-        ≡ spec.name_added (map (λ name. name.items) names.old.keys) name.now) }
+        number ≡ spec.number_of (spec.names_in names.old.keys) name.now) }
+    ensures names { OnOk result (spec.names_in names.new.keys
+        ≡ spec.name_added (spec.names_in names.old.keys) name.now) }
     ensures same { OnErr result (names.new.keys ≡ names.old.keys) }
 {
     if let Some(number) = names.get_index_of(name) {
@@ -196,6 +198,7 @@ fn keep_in(
 ) -> Result<Digest, DigestFault>
     ensures answer { Gives NoMemory
         (spec.answered digest text (spec.text_under texts.old.entries digest)) result }
+    ensures given { IfOk result (λ given. given ≡ digest) }
     ensures entered { OnOk result (texts.new.entries
         ≡ spec.text_added texts.old.entries digest text (spec.text_under texts.old.entries digest)) }
     ensures same { OnErr result (texts.new.entries ≡ texts.old.entries) }
@@ -210,7 +213,8 @@ fn keep_in(
 }
 
 fn same_text(alloc: Global, digest: Digest, old: &Text, new: Text) -> Result<Digest, DigestFault>
-    ensures { Gives NoMemory (spec.compared digest old.now new) result }
+    ensures answer { Gives NoMemory (spec.compared digest old.now new) result }
+    ensures given { IfOk result (λ given. given ≡ digest) }
 {
     if old.as_bytes() == new.as_bytes() {
         return Ok(digest);
