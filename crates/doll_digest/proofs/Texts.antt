@@ -11,7 +11,7 @@ use Rattle.std.proofs.lemmas.Slice.Eq.{bytes_eq-Decides}
 use Rattle.doll_text.specs.Gives.{Gives}
 use Rattle.doll_digest.specs.declared.registry.DigestFault.{DigestFault}
 use Rattle.doll_digest.specs.declared.registry.DigestFault.TheVariants.{Clash, Memory}
-use Rattle.doll_digest.specs.Registries.{Registered, AreApart, AreKept, TextsStay, answered, entered, text_added, text_under, with_text}
+use Rattle.doll_digest.specs.Registries.{Registered, AreApart, AreKept, TextsStay, answered, entered, text_added, text_under, texts_with, with_text}
 
 all_with : {X : Type 0} (P : X → Type 0) (xs : List X) (x : X) → AllByRecursion P xs → P x → AllByRecursion P (xs ++ x ∷ [])
 all_with P [] x all last = (last, tt)
@@ -99,14 +99,14 @@ module _ (hash : List ℕ → List ℕ) (old new : Registered) (text : List ℕ)
 
 -- the same of the texts alone
 module _ (hash : List ℕ → List ℕ) (old new : List (List ℕ × List ℕ)) (digest text : List ℕ) (is : digest ≡ hash text) where
-  added : new ≡ text_added old digest text (text_under old digest) → new ≡ text_added old (hash text) text (text_under old (hash text))
-  added e = e ∙ ap (λ d. text_added old d text (text_under old d)) is
+  added : new ≡ texts_with old digest text → new ≡ texts_with old (hash text) text
+  added e = e ∙ ap (λ d. texts_with old d text) is
 
-  pub are_kept : AreKept hash old → (result : Result (List ℕ) DigestFault) → OnOk result (new ≡ text_added old digest text (text_under old digest)) → OnErr result (new ≡ old)
+  pub are_kept : AreKept hash old → (result : Result (List ℕ) DigestFault) → OnOk result (new ≡ texts_with old digest text) → OnErr result (new ≡ old)
       → (IsDistinct bytes_eq (keys_of old) → IsDistinct bytes_eq (keys_of new)) → AreKept hash new
   are_kept kept (Ok given) ok err unique = (subst (AllByRecursion (λ kept. kept.0 ≡ hash kept.1)) (sym (added ok)) (still_hashes hash old text (text_under old (hash text)) kept.0), unique kept.1)
   are_kept kept (Err fault) ok err unique = subst (AreKept hash) (sym err) kept
 
-  pub are_apart : AreKept hash old → (result : Result (List ℕ) DigestFault) → OnOk result (new ≡ text_added old digest text (text_under old digest)) → OnErr result (new ≡ old)
+  pub are_apart : AreKept hash old → (result : Result (List ℕ) DigestFault) → OnOk result (new ≡ texts_with old digest text) → OnErr result (new ≡ old)
       → (IsDistinct bytes_eq (keys_of old) → IsDistinct bytes_eq (keys_of new)) → AreApart hash new
   are_apart kept result ok err unique = apart hash new (are_kept kept result ok err unique)

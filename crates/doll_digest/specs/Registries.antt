@@ -92,9 +92,13 @@ abbrev pub text_added : List (List ℕ × List ℕ) → List ℕ → List ℕ �
 text_added texts digest text None = texts ++ (digest, text) ∷ []
 text_added texts digest text (Some old) = texts
 
+-- the texts after one is kept under a digest
+abbrev pub texts_with : List (List ℕ × List ℕ) → List ℕ → List ℕ → List (List ℕ × List ℕ)
+texts_with texts digest text = text_added texts digest text (text_under texts digest)
+
 -- the registry after a framed text was entered
 abbrev pub with_text : (List ℕ → List ℕ) → Registered → List ℕ → Registered
-with_text hash registry text = record { names = registry.names; texts = text_added registry.texts (hash text) text (text_under registry.texts (hash text)) }
+with_text hash registry text = record { names = registry.names; texts = texts_with registry.texts (hash text) text }
 
 -- Each text that is kept under a digest stays kept under it.
 abbrev pub TextsStay : List (List ℕ × List ℕ) → List (List ℕ × List ℕ) → Type 0

@@ -1,6 +1,6 @@
 //! The registry of names and framed texts.
 
-ghost use Rattle.std.specs.Prelude.{◌≡◌, ◌<◌, ◌++◌, map, take, length, slice_get, option_copied, Some, IfOk, OnOk, OnErr};
+ghost use Rattle.std.specs.Prelude.{◌≡◌, ◌<◌, length, Some, IfOk, OnOk, OnErr};
 ghost use Rattle.std.specs.List.{IsDistinct};
 ghost use Rattle.std.specs.Map.{keys_of};
 ghost use Rattle.std.specs.Str.{bytes_eq};
@@ -113,25 +113,25 @@ impl<H: Hash16> Registry<H> {
         &mut self,
         alloc: Global,
         source: &[u8],
-        dependencies: &[(NameId, Digest)],
+        deps: &[(NameId, Digest)],
     ) -> Result<Digest, DigestFault>
-        requires numbers { spec.AreNumbered self.old.names dependencies.now }
-        requires ascend { spec.NamesAscend self.old.names dependencies.now }
+        requires numbers { spec.AreNumbered self.old.names deps.now }
+        requires ascend { spec.NamesAscend self.old.names deps.now }
         ensures answer { Gives NoMemory
-            (spec.entered H.hash_of self.old (spec.text_of self.old source.now dependencies.now)) result }
+            (spec.entered H.hash_of self.old (spec.text_of self.old source.now deps.now)) result }
         ensures hash { IfOk result (λ digest. digest
-            ≡ H.hash_of (spec.text_of self.old source.now dependencies.now)) }
+            ≡ H.hash_of (spec.text_of self.old source.now deps.now)) }
         ensures digest { IfOk result IsDigest }
         ensures entered { OnOk result (self.new
-            ≡ spec.with_text H.hash_of self.old (spec.text_of self.old source.now dependencies.now)) }
+            ≡ spec.with_text H.hash_of self.old (spec.text_of self.old source.now deps.now)) }
         ensures same { OnErr result (self.new ≡ self.old) }
         ensures kept { IfOk result (λ digest. spec.text_under self.new.texts digest
-            ≡ Some (spec.text_of self.old source.now dependencies.now)) }
+            ≡ Some (spec.text_of self.old source.now deps.now)) }
         ensures stay { spec.TextsStay self.old.texts self.new.texts }
         ensures names { self.new.names ≡ self.old.names }
         ensures apart { spec.AreApart H.hash_of self.new.texts }
     {
-        let text = framed(alloc, &self.names, source, dependencies)?;
+        let text = framed(alloc, &self.names, source, deps)?;
         self.keep(alloc, text)
     }
 
@@ -153,15 +153,15 @@ fn framed(
     alloc: Global,
     names: &IndexSet<Vec<u8>>,
     source: &[u8],
-    dependencies: &[(NameId, Digest)],
+    deps: &[(NameId, Digest)],
 ) -> Result<Text, Memory>
-    requires { spec.AreNumbered (spec.names_in names.now.keys) dependencies.now }
+    requires { spec.AreNumbered (spec.names_in names.now.keys) deps.now }
     ensures { IfOk result (λ text. text
-        ≡ framed_text source.now (spec.named (spec.names_in names.now.keys) dependencies.now)) }
+        ≡ framed_text source.now (spec.named (spec.names_in names.now.keys) deps.now)) }
 {
     let mut out = Vec::new(alloc);
     put_net(source, &mut out)?;
-    for (id, digest) in dependencies {
+    for (id, digest) in deps {
         put_dependency(name_at(names, *id), *digest, &mut out)?;
     }
     Ok(Text::from_vec(out))
@@ -200,7 +200,7 @@ fn keep_in(
         (spec.answered digest text (spec.text_under texts.old.entries digest)) result }
     ensures given { IfOk result (λ given. given ≡ digest) }
     ensures entered { OnOk result (texts.new.entries
-        ≡ spec.text_added texts.old.entries digest text (spec.text_under texts.old.entries digest)) }
+        ≡ spec.texts_with texts.old.entries digest text) }
     ensures same { OnErr result (texts.new.entries ≡ texts.old.entries) }
     ensures unique { IsDistinct bytes_eq (keys_of texts.old.entries)
         → IsDistinct bytes_eq (keys_of texts.new.entries) }

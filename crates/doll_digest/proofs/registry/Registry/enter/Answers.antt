@@ -5,8 +5,8 @@ use Rattle.doll_digest.proofs.registry.Registry.enter.Goals as goal
 
 pub returns-clause-kept : goal.returns-clause-kept
 returns-clause-kept g c =
-    kept_after g.H.Hash16.hash_of c.args.self.now c.keep.new.self c.in_ok-text.text (text_of c.args.self.now c.args.source.now c.args.dependencies.now)
-    (c.in_ok-text.ensures ∙ ap (λ registry. text_of registry c.args.source.now c.args.dependencies.now) c.self.view_is)
+    kept_after g.H.Hash16.hash_of c.args.self.now c.keep.new.self c.in_ok-text.text (text_of c.args.self.now c.args.source.now c.args.deps.now)
+    (c.in_ok-text.ensures ∙ ap (λ registry. text_of registry c.args.source.now c.args.deps.now) c.self.view_is)
     c.keep.result c.keep.ensures.answer c.keep.ensures.entered
 
 pub returns-clause-stay : goal.returns-clause-stay
