@@ -1,11 +1,8 @@
 -- What a registry holds, and what entering a template gives and leaves (this project's own).
 use Rattle.std.specs.Prelude.{◌≡◌, ◌<◌, ℕ, List, [], ◌∷◌, ◌++◌, map, length, Contains, Option, None, Some, Vec, Result, Ok, Err, if◌then◌else◌, ⊤}
-use Rattle.std.specs.Cmp.Lexicographic.{slice_cmp}
 use Rattle.std.specs.List.{list_any, position_or_len, slice_index_or, AllByRecursion, IsDistinct}
 use Rattle.std.specs.declared.alloc.Global.{Global}
 use Rattle.std.specs.Map.{lookup, keys_of, values_of}
-use Rattle.std.specs.Ordering.{nat_cmp}
-use Rattle.std.specs.declared.cmp.Ordering.TheVariants.{Less}
 use Rattle.std.specs.Str.{bytes_eq}
 use Rattle.doll_digest.specs.Framing.{framed_text}
 use Rattle.doll_digest.specs.declared.registry.DigestFault.{DigestFault}
@@ -55,15 +52,6 @@ AreNumbered names dependencies = AllByRecursion (λ dependency. dependency.0 < l
 -- dependencies by their names
 abbrev pub named : List (List ℕ) → List (ℕ × List ℕ) → List (List ℕ × List ℕ)
 named names dependencies = map (λ dependency. (name_at names dependency.0, dependency.1)) dependencies
-
--- each text is below those after it, by its bytes
-abbrev pub TextsAscend : List (List ℕ) → Type 0
-TextsAscend [] = ⊤
-TextsAscend (text ∷ texts) = AllByRecursion (λ later. slice_cmp nat_cmp text later ≡ Less) texts × TextsAscend texts
-
--- The names of the dependencies ascend.
-abbrev pub NamesAscend : List (List ℕ) → List (ℕ × List ℕ) → Type 0
-NamesAscend names dependencies = TextsAscend (map (λ dependency. dependency.0) (named names dependencies))
 
 -- the framed text of a template with these dependencies
 abbrev pub text_of : Registered → List ℕ → List (ℕ × List ℕ) → List ℕ

@@ -116,7 +116,6 @@ impl<H: Hash16> Registry<H> {
         deps: &[(NameId, Digest)],
     ) -> Result<Digest, DigestFault>
         requires numbers { spec.AreNumbered self.old.names deps.now }
-        requires ascend { spec.NamesAscend self.old.names deps.now }
         ensures answer { Gives NoMemory
             (spec.entered H.hash_of self.old (spec.text_of self.old source.now deps.now)) result }
         ensures hash { IfOk result (λ digest. digest
