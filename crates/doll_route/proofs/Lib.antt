@@ -1,0 +1,6 @@
+pub mod Apart
+pub mod Digits
+pub mod Kept
+pub mod Parsing
+pub mod Patterns
+pub mod Search

@@ -1,0 +1,36 @@
+//! The parameters of a query, in the syntax of web forms.
+
+ghost use Rattle.std.specs.Prelude.{◌≡◌, map, IfOk};
+ghost use Rattle.doll_route.specs.Queries.{value_of};
+
+use crate::route::Names;
+use doll_schema::{Value, Values};
+use doll_text::{Items, Memory, Name, Text};
+use form_urlencoded::parse;
+use std::alloc::Global;
+
+/// The values of parameters with these names.
+pub fn values_of(alloc: Global, names: &Names, query: &str) -> Result<Values, Memory>
+    ensures { IfOk result (λ values. values ≡ map (value_of query.now) names.now) }
+{
+    let names: &[Name] = names.as_slice();
+    let mut values = Items::new(alloc);
+    for name in names {
+        values.push(value_of(alloc, name.as_bytes(), query)?)?;
+    }
+    Ok(values)
+}
+
+/// The value of the first pair with a name, else nil.
+fn value_of(alloc: Global, name: &[u8], query: &str) -> Result<Value, Memory>
+    ensures { IfOk result (λ value. value ≡ value_of query.now name.now) }
+{
+    for pair in parse(alloc, query.as_bytes()) {
+        let (key, value) = pair?;
+        if key.as_bytes() == name {
+            let text = Text::from_bytes(alloc, value.as_bytes())?;
+            return Ok(Value::Text(text));
+        }
+    }
+    Ok(Value::Nil)
+}
