@@ -16,8 +16,8 @@ use Rattle.matchit.specs.Seek.{first, has_slash, or_else}
 use Rattle.matchit.proofs.ParamLemmas.{same_text-differ}
 use Rattle.doll_route.specs.declared.route.Route.{Route}
 use Rattle.doll_route.specs.declared.route.Subject.TheVariants as subject
-use Rattle.doll_route.specs.Paths.{asked, digits_from, id_behind, id_of}
-use Rattle.doll_route.specs.Routes.{AreRoutes, IsRoute, answers, found_as, found_at, has_path, route_of}
+use Rattle.doll_route.specs.Paths.{asked, before_id, digits_from, id_behind, id_of, names_id}
+use Rattle.doll_route.specs.Routes.{AreRoutes, IsRoute, IsFoundIn, IsTheOnly, answers, found_as, found_at, has_path, number_of, route_of}
 use Rattle.doll_route.specs.Rows.{AddsRow, HasRows, HavePatterns, number_in, pattern_of}
 use Rattle.doll_route.proofs.Apart.{lookup-other, lookup-placed, none-near, placed-patterns}
 use Rattle.doll_route.proofs.Patterns.{Shape, pattern, same_path, shape_of}
@@ -197,7 +197,7 @@ none-asked routes path n r none at =
     by false e f = grind (arith, nat_tests)
 
 -- the only route that a path may ask for is the one that it asks for, if it asks for any
-pub only-found : (routes : List Route) (path : List ℕ) (o : Option ℕ) → ((n : ℕ) (r : Route) → slice_get routes n ≡ Some r → answers path r ≡ true → o ≡ Some n) → found_at routes path o ≡ route_of routes path
+pub only-found : (routes : List Route) (path : List ℕ) (o : Option ℕ) → IsTheOnly routes path o → found_at routes path o ≡ route_of routes path
 unfolding route_of
 only-found routes path o only = by (position (answers path) routes) refl o refl
   where
@@ -216,3 +216,36 @@ only-found routes path o only = by (position (answers path) routes) refl o refl
         ap (found_at routes path) (sym is ∙ here)
     by None e None is = refl
     by None e (Some n) is = unasked n (slice_get routes n) refl e
+
+-- and there is no other
+pub only-one : (routes : List Route) (path : List ℕ) (o : Option ℕ) → IsTheOnly routes path o → IsTheOnly routes path (number_of (route_of routes path))
+only-one routes path o only = λ n r at asks. by n r at asks (asked r.path path) refl
+  where
+    by : (n : ℕ) (r : Route) → slice_get routes n ≡ Some r → answers path r ≡ true → (id : Option (Option ℕ)) → asked r.path path ≡ id → number_of (route_of routes path) ≡ Some n
+    by n r at asks None e = let no : false ≡ true = rw e at asks in absurd (cc no)
+    by n r at asks (Some id) e =
+        let found : found_at routes path o ≡ Some (record { route = n; id = id }) = rw (only n r at asks, at, e) refl in
+        ap number_of (sym (only-found routes path o only) ∙ found)
+
+-- an id is named exactly where the route's path has one
+id-stands : (own path : List ℕ) (id : Option ℕ) → asked own path ≡ Some id → is_some id ≡ names_id own
+id-stands own path id asks = by (before_id own) refl
+  where
+    by : (front : Option (List ℕ)) → before_id own ≡ front → is_some id ≡ is_some front
+    by (Some front) e =
+        let is : option_map Some (id_behind front path) ≡ Some id = rw e at asks in
+        some (id_behind front path) is
+      where
+        some : (o : Option ℕ) → option_map Some o ≡ Some id → is_some id ≡ true
+        some None f = absurd (cc f)
+        some (Some n) f = let is : Some n ≡ id = cc in rw (sym is) refl
+    by None e =
+        let is : cond (bytes_eq path own) (Some None) None ≡ Some id = rw e at asks in
+        none (bytes_eq path own) is
+      where
+        none : (v : Bool) → cond v (Some None) None ≡ Some id → is_some id ≡ false
+        none true f = let is : None ≡ id = cc in rw (sym is) refl
+        none false f = absurd (cc f)
+
+pub found-in : (routes : List Route) (path : List ℕ) (n : ℕ) (own : Route) (id : Option ℕ) → AreRoutes routes → slice_get routes n ≡ Some own → asked own.path path ≡ Some id → IsFoundIn routes (record { route = n; id = id })
+found-in routes path n own id are at asks = (own, at, id-stands own.path path id asks ∙ (are.each n own at).id)

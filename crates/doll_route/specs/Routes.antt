@@ -82,6 +82,19 @@ abbrev pub found_at : List Route → List ℕ → Option ℕ → Option Found
 found_at routes path number =
     option_and_then (λ n. option_and_then (λ (r : Route). found_as n (asked r.path path)) (slice_get routes n)) number
 
--- The route that a path asks for, with the id that it names. There is at most one.
+-- the route that a path asks for, with the id that it names
 unfoldable pub route_of : List Route → List ℕ → Option Found
 route_of routes path = found_at routes path (position (answers path) routes)
+
+-- what was found is a route, with an id exactly where that is about a record
+abbrev pub IsFoundIn : List Route → Found → Type 0
+IsFoundIn routes found =
+    (r : Route) × (slice_get routes found.route ≡ Some r) × (is_some found.id ≡ takes_id r.subject)
+
+-- the number of whichever route the path asks for, where it asks for any: there is no other
+abbrev pub IsTheOnly : List Route → List ℕ → Option ℕ → Type 0
+IsTheOnly routes path number = (n : ℕ) (r : Route) → slice_get routes n ≡ Some r → answers path r ≡ true → number ≡ Some n
+
+-- the number of what was found
+abbrev pub number_of : Option Found → Option ℕ
+number_of found = option_map (λ (f : Found). f.route) found

@@ -1,13 +1,13 @@
 //! The routes of a site.
 
-ghost use Rattle.std.specs.Prelude.{◌≡◌, ◌++◌, ◌∷◌, [], ◌<◌, ℕ, true, false, Some, Ok, length, slice_get, IfOk};
+ghost use Rattle.std.specs.Prelude.{◌≡◌, ◌++◌, ◌∷◌, [], ◌<◌, false, Ok, length, slice_get, IfOk, IfSome};
 ghost use Rattle.std.specs.Option.{option_copied};
 ghost use Rattle.serde_json.specs.View.{view};
 ghost use Rattle.doll_text.specs.Gives.{Gives};
 ghost use Rattle.doll_route.specs.declared.route.Route.{Route};
 ghost use Rattle.doll_route.specs.Queries.{params_in};
 ghost use Rattle.doll_route.specs.Readings.{routes_of};
-ghost use Rattle.doll_route.specs.Routes.{AreRoutes, AreRoutesOf, IsRoute, answers, has_path, route_of};
+ghost use Rattle.doll_route.specs.Routes.{AreRoutes, AreRoutesOf, IsFoundIn, IsRoute, IsTheOnly, has_path, number_of, route_of};
 
 use crate::fault::RouteFault;
 use crate::limits::MOST_ROUTES;
@@ -107,17 +107,18 @@ impl Routes {
         self.routes.get(number as usize)
     }
 
-    /// The route that a path asks for. The path is read in its own length, whatever the number of routes.
+    /// The route that a path asks for. The path is read in its own length, whatever the number of routes, and takes no memory.
     pub fn find(&self, path: &str) -> Result<Option<Found>, Memory>
-        ensures { result ≡ Ok (route_of self.now path.now) }
+        ensures exact { result ≡ Ok (route_of self.now path.now) }
+        ensures only { IfOk result (λ found. IsTheOnly self.now path.now (number_of found)) }
+        ensures fits { IfOk result (λ found. IfSome found (IsFoundIn self.now)) }
     {
         Ok(self.found(path, self.candidate(path)))
     }
 
-    /// The only route that a path may ask for.
+    /// The number of the only route that a path may ask for.
     fn candidate(&self, path: &str) -> Option<u16>
-        ensures { (n : ℕ) (r : Route) → slice_get self.now n ≡ Some r → answers path.now r ≡ true
-            → result ≡ Some n }
+        ensures { IsTheOnly self.now path.now result }
     {
         match self.router.at(path) {
             Ok(found) => Some(*found.value),
@@ -127,9 +128,9 @@ impl Routes {
 
     /// The route with a number, where the path asks for it.
     fn found(&self, path: &str, number: Option<u16>) -> Option<Found>
-        requires { (n : ℕ) (r : Route) → slice_get self.now n ≡ Some r → answers path.now r ≡ true
-            → number ≡ Some n }
-        ensures { result ≡ route_of self.now path.now }
+        requires { IsTheOnly self.now path.now number }
+        ensures exact { result ≡ route_of self.now path.now }
+        ensures fits { IfSome result (IsFoundIn self.now) }
     {
         let route = number?;
         let own = self.routes.get(route as usize)?;
