@@ -4,3 +4,4 @@ pub mod Kept
 pub mod Parsing
 pub mod Patterns
 pub mod Search
+pub mod Values

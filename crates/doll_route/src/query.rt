@@ -1,7 +1,7 @@
 //! The parameters of a query, in the syntax of web forms.
 
 ghost use Rattle.std.specs.Prelude.{◌≡◌, map, IfOk};
-ghost use Rattle.doll_route.specs.Queries.{value_of};
+ghost use Rattle.doll_route.specs.Queries.{AreParamsFor, value_of};
 
 use crate::route::Names;
 use doll_schema::{Value, Values};
@@ -11,7 +11,8 @@ use std::alloc::Global;
 
 /// The values of parameters with these names.
 pub fn values_of(alloc: Global, names: &Names, query: &str) -> Result<Values, Memory>
-    ensures { IfOk result (λ values. values ≡ map (value_of query.now) names.now) }
+    ensures exact { IfOk result (λ values. values ≡ map (value_of query.now) names.now) }
+    ensures fits { IfOk result (AreParamsFor names.now) }
 {
     let names: &[Name] = names.as_slice();
     let mut values = Items::new(alloc);

@@ -5,7 +5,7 @@ ghost use Rattle.std.specs.Option.{option_copied};
 ghost use Rattle.serde_json.specs.View.{view};
 ghost use Rattle.doll_text.specs.Gives.{Gives};
 ghost use Rattle.doll_route.specs.declared.route.Route.{Route};
-ghost use Rattle.doll_route.specs.Queries.{params_in};
+ghost use Rattle.doll_route.specs.Queries.{AreParamsFor, param_names, params_in};
 ghost use Rattle.doll_route.specs.Readings.{routes_of};
 ghost use Rattle.doll_route.specs.Routes.{AreRoutes, AreRoutesOf, IsFoundIn, IsRoute, IsTheOnly, has_path, number_of, route_of};
 
@@ -141,7 +141,8 @@ impl Routes {
     /// The values of a route's parameters in a query: of each name the first pair's value, else nil.
     pub fn params(&self, alloc: Global, route: u16, query: &str) -> Result<Values, Memory>
         requires { route < length self.now }
-        ensures { IfOk result (λ values. values ≡ params_in self.now route query.now) }
+        ensures exact { IfOk result (λ values. values ≡ params_in self.now route query.now) }
+        ensures fits { IfOk result (AreParamsFor (param_names (slice_get self.now route))) }
     {
         match self.routes.get(route as usize) {
             Some(own) => values_of(alloc, &own.params, query),
