@@ -12,14 +12,14 @@ use Rattle.doll_schema.specs.declared.model.Model.{Model}
 use Rattle.doll_schema.specs.declared.model.Schema.{Schema}
 use Rattle.doll_journal.specs.declared.change.Change.{Change}
 use Rattle.doll_journal.specs.declared.change.Change.TheVariants as change
-use Rattle.doll_table.specs.Tables.{Extent, TableMap, row_of, next_of, put_row, put_next}
+use Rattle.doll_table.specs.Tables.{Extent, TableMap, row_of, next_of, put_row, put_next, without_rows}
 use Rattle.doll_table.proofs.Growing.{row_of_put, row_of_next, row_of_without}
 use Rattle.doll_commit.specs.declared.change.TheConstants.{NO_ID}
 use Rattle.doll_commit.specs.declared.fault.Why.{Why}
 use Rattle.doll_commit.specs.declared.fault.Why.TheVariants as why
 use Rattle.doll_commit.specs.Refs.{Ref, is_ref, has, with_refs}
 use Rattle.doll_commit.specs.Given.{Given}
-use Rattle.doll_commit.specs.Removed.{removed_with, is_restricted, without_rows}
+use Rattle.doll_commit.specs.Removed.{removed_with, is_restricted}
 use Rattle.doll_commit.specs.Changes.{Made, model_of, living_row, created_row, updated_row, create, update, destroy_all, destroy, touch, made}
 use Rattle.doll_commit.specs.Commits.{row_touches, touch_parents, touched_at_once, Course, after_change, refused_at, all_made}
 use Rattle.doll_commit.proofs.Closures.{has_left, has_right, has_next, with_all_has}

@@ -9,7 +9,7 @@ use Rattle.doll_text.specs.Steps.{◌>>=◌}
 use Rattle.doll_schema.specs.declared.value.Row.{Row}
 use Rattle.doll_schema.specs.declared.model.Model.{Model}
 use Rattle.doll_schema.specs.declared.model.Schema.{Schema}
-use Rattle.doll_table.specs.Tables.{TableMap, row_of, next_of, put_row, put_next}
+use Rattle.doll_table.specs.Tables.{TableMap, row_of, next_of, put_row, put_next, without_rows}
 use Rattle.doll_table.specs.Fits.{Fits, RowFits}
 use Rattle.doll_table.proofs.Beyond.{row_beyond}
 use Rattle.doll_table.proofs.Growing.{put_fits}
@@ -20,7 +20,7 @@ use Rattle.doll_commit.specs.declared.fault.ChangeFault.{ChangeFault}
 use Rattle.doll_commit.specs.declared.fault.ChangeFault.TheVariants as fault
 use Rattle.doll_commit.specs.Refs.{Ref, is_ref, has, with_ref, with_refs}
 use Rattle.doll_commit.specs.Given.{Given}
-use Rattle.doll_commit.specs.Removed.{dependents, removed_with, is_restricted, without_rows}
+use Rattle.doll_commit.specs.Removed.{dependents, removed_with, is_restricted}
 use Rattle.doll_commit.specs.Changes.{Made, living_row, filled_at, created_row, updated_row, create, update, destroy, destroy_all, touch}
 use Rattle.doll_commit.specs.Commits.{Course, row_touches, touch_parents, after_change}
 use Rattle.doll_commit.specs.Answers.{Refuses, next_course}

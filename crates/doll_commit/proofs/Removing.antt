@@ -14,11 +14,11 @@ use Rattle.doll_schema.specs.declared.value.Row.{Row}
 use Rattle.doll_schema.specs.declared.model.BelongsTo.{BelongsTo}
 use Rattle.doll_schema.specs.declared.model.Model.{Model}
 use Rattle.doll_schema.specs.declared.model.Schema.{Schema}
-use Rattle.doll_table.specs.Tables.{Extent, TableMap, row_of, rows_in, next_of, parent_of, names_parent, ids_under, without_row}
+use Rattle.doll_table.specs.Tables.{Extent, TableMap, row_of, rows_in, next_of, parent_of, names_parent, ids_under, without_row, without_rows}
 use Rattle.doll_table.specs.Fits.{Fits, RowFits}
 use Rattle.doll_table.proofs.Growing.{row_of_without, next_of_without, length_stays}
 use Rattle.doll_commit.specs.Refs.{Ref, is_ref, has}
-use Rattle.doll_commit.specs.Removed.{naming_by, naming, is_restricted, without_rows}
+use Rattle.doll_commit.specs.Removed.{naming_by, naming, is_restricted}
 use Rattle.doll_commit.proofs.Closures.{is_ref-true, is_ref_itself, has_left, has_right}
 
 -- the rows of a table without some

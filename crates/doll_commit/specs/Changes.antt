@@ -8,14 +8,14 @@ use Rattle.doll_schema.specs.declared.value.Row.{Row}
 use Rattle.doll_schema.specs.Lookups.{model_named}
 use Rattle.doll_journal.specs.declared.change.Change.{Change}
 use Rattle.doll_journal.specs.declared.change.Change.TheVariants as change
-use Rattle.doll_table.specs.Tables.{TableMap, row_of, next_of, put_row, put_next}
+use Rattle.doll_table.specs.Tables.{TableMap, row_of, next_of, put_row, put_next, without_rows}
 use Rattle.doll_commit.specs.declared.change.TheConstants.{NO_ID}
 use Rattle.doll_commit.specs.declared.fault.Why.{Why}
 use Rattle.doll_commit.specs.declared.fault.Why.TheVariants as why
 use Rattle.doll_commit.specs.Refs.{Ref}
 use Rattle.doll_commit.specs.Given.{Given, given_fault}
 use Rattle.doll_commit.specs.Rows.{blank_row, row_after, lacks}
-use Rattle.doll_commit.specs.Removed.{removed_with, is_restricted, without_rows}
+use Rattle.doll_commit.specs.Removed.{removed_with, is_restricted}
 
 -- what a change made: the table after it, the records that it created, updated, touched or removed, and the id of the
 -- record that it created

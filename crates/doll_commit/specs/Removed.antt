@@ -6,7 +6,7 @@ use Rattle.doll_schema.specs.declared.model.BelongsTo.{BelongsTo}
 use Rattle.doll_schema.specs.declared.model.HasMany.{HasMany}
 use Rattle.doll_schema.specs.declared.model.Model.{Model}
 use Rattle.doll_schema.specs.declared.model.Schema.{Schema}
-use Rattle.doll_table.specs.Tables.{TableMap, ids_under, without_row}
+use Rattle.doll_table.specs.Tables.{TableMap, ids_under}
 use Rattle.doll_commit.specs.Refs.{Ref, has, closure}
 
 -- a record's children under an association, if that destroys them
@@ -36,8 +36,3 @@ has_other others refs = list_any (λ ref. not (has others ref)) refs
 -- whether a row outside of these records names one of them
 abbrev pub is_restricted : TableMap → Schema → List Ref → Bool
 is_restricted table schema removed = list_any (λ gone. has_other removed (naming table schema gone)) removed
-
--- the table without these records
-abbrev pub without_rows : TableMap → List Ref → TableMap
-without_rows table [] = table
-without_rows table (ref ∷ refs) = without_row (without_rows table refs) ref.0 ref.1

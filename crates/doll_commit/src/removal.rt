@@ -4,7 +4,7 @@ ghost use Rattle.std.specs.Prelude.{◌≡◌, ◌==◌, ◌<◌, ◌≤◌, not
 ghost use Rattle.std.specs.List.{list_any, flat_map, enumerate_from};
 ghost use Rattle.doll_schema.specs.declared.model.BelongsTo.{BelongsTo};
 ghost use Rattle.doll_schema.specs.declared.limits.TheConstants.{MOST_PARENTS};
-ghost use Rattle.doll_table.specs.Tables.{ids_under};
+ghost use Rattle.doll_table.specs.Tables.{ids_under, without_rows};
 ghost use Rattle.doll_commit.specs.Refs.{has, with_refs};
 ghost use Rattle.doll_commit.specs.Removed as spec;
 
@@ -141,11 +141,28 @@ fn stays(removed: &Refs, model: u16, ids: &[u32]) -> bool
     false
 }
 
-/// Removes these records, the last first: children stand in ascending order, so that a table moves few rows up where they
-/// go from their end.
+/// From how many records on a table passes through the ids that stay once, which takes it longer than to move them up for
+/// each of fewer.
+const MANY: usize = 64;
+
+/// Removes these records.
 pub fn remove_all(table: &mut Table, removed: &[Ref]) -> Result<(), Memory>
-    requires { (ref : ℕ × ℕ) → has removed.now ref ≡ true → ref.0 < length table.old.schema.models }
-    ensures { OnOk result (table.new ≡ spec.without_rows table.old removed.now) }
+    requires { (ref : ℕ × ℕ) → has removed.now ref ≡ true →
+        ref.0 < length table.old.schema.models }
+    ensures { OnOk result (table.new ≡ without_rows table.old removed.now) }
+{
+    if removed.len() < MANY {
+        return remove_each(table, removed);
+    }
+    table.remove_all(removed)
+}
+
+/// Removes these records one by one, the last first: children stand in ascending order, so that a table moves few ids up
+/// where they go from their end.
+fn remove_each(table: &mut Table, removed: &[Ref]) -> Result<(), Memory>
+    requires { (ref : ℕ × ℕ) → has removed.now ref ≡ true →
+        ref.0 < length table.old.schema.models }
+    ensures { OnOk result (table.new ≡ without_rows table.old removed.now) }
 {
     let mut left = removed.len();
     while left > 0 {

@@ -9,7 +9,7 @@ ghost use Rattle.doll_commit.specs.Rows as spec;
 
 use crate::given::{key_given, key_of, value_given};
 use doll_schema::{Attribute, BelongsTo, Model, ParentIds, Row, Value, Values};
-use doll_text::{Copied, Items, Memory, Name};
+use doll_text::{Copied, Items, Memory, Name, Shared};
 use std::alloc::Global;
 
 /// A row before its creation: all nil.
@@ -17,7 +17,7 @@ pub fn blank_row(alloc: Global, model: &Model) -> Result<Row, Memory>
     ensures { IfOk result (λ row. row ≡ spec.blank_row model.now) }
 {
     Ok(Row {
-        values: no_values(alloc, model.attributes.as_slice())?,
+        values: Shared::new(alloc, no_values(alloc, model.attributes.as_slice())?)?,
         parents: no_parents(alloc, model.belongs_to.as_slice())?,
         updated_at: 0,
     })
@@ -56,7 +56,7 @@ pub fn row_after(
         alloc,
         model.attributes.as_slice(),
         given,
-        old.values.as_slice(),
+        old.values.get().as_slice(),
     )?;
     let parents = keys_after(
         alloc,
@@ -65,7 +65,7 @@ pub fn row_after(
         old.parents.as_slice(),
     )?;
     Ok(Row {
-        values,
+        values: Shared::new(alloc, values)?,
         parents,
         updated_at: old.updated_at,
     })
@@ -130,7 +130,7 @@ fn key_after(given: &[(Name, Value)], association: &BelongsTo, old: Option<u32>)
 pub fn lacks(model: &Model, row: &Row) -> bool
     ensures { result ≡ spec.lacks model.now row.now }
 {
-    lacks_value(model.attributes.as_slice(), row.values.as_slice())
+    lacks_value(model.attributes.as_slice(), row.values.get().as_slice())
         || lacks_parent(model.belongs_to.as_slice(), row.parents.as_slice())
 }
 

@@ -160,7 +160,7 @@ fn attribute<R: Rows>(
     let Some(row) = rows.row(model, id) else {
         return Ok(nil());
     };
-    match row.values.get(at) {
+    match row.values.get().get(at) {
         Some(value) => Ok(Val::Plain(value.copy(alloc)?)),
         None => Ok(nil()),
     }

@@ -4,10 +4,8 @@
 
 pub mod edit;
 pub mod map;
-pub mod shared;
 pub mod slots;
 
 pub use edit::{Edit, Put, Removal};
 pub use map::{InMap, PageMap};
-pub use shared::Shared;
 pub use slots::Slots;

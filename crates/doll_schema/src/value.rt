@@ -2,7 +2,7 @@
 
 ghost use Rattle.std.specs.Prelude.{◌≡◌, IfOk};
 
-use doll_text::{Copied, Ids, Items, Memory, Name, Text, copy_list};
+use doll_text::{Copied, Ids, Items, Memory, Name, Shared, Text};
 use std::alloc::Global;
 
 /// A single value.
@@ -22,8 +22,8 @@ pub type ParentIds = Items<Option<u32>>;
 /// A record, without its model and its id.
 #[derive(Drop)]
 pub struct Row {
-    /// In the order of the model's attributes.
-    pub values: Values,
+    /// In the order of the model's attributes. A copy of the record shares them.
+    pub values: Shared<Values>,
     /// In the order of the model's associations to a parent.
     pub parents: ParentIds,
     /// The moment of the last commit that changed or touched the record, in microseconds.
@@ -55,7 +55,7 @@ impl Copied for Value {
 impl Copied for Row {
     fn copy(&self, alloc: Global) -> Result<Row, Memory> {
         Ok(Row {
-            values: copy_list(alloc, self.values.as_slice())?,
+            values: self.values.copy(alloc)?,
             parents: Items::from_slice(alloc, self.parents.as_slice())?,
             updated_at: self.updated_at,
         })

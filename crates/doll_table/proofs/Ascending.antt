@@ -1,6 +1,6 @@
 -- Ascending ids as a set, and what an edit at its place makes of them.
-use Rattle.std.proofs.Common.{◌≡◌, ℕ, zero, suc, ◌<◌, ◌≤◌, Bool, true, false, not, cond, List, [], ◌∷◌, map, length, get_or, set, Option, Some, None, is_some, eqb, refl, sym, ◌∙◌, ap, subst, arith, ◌⊎◌, inl, inr}
-use Rattle.std.specs.Prelude.{T}
+use Rattle.std.proofs.Common.{◌≡◌, ℕ, zero, suc, ◌<◌, ◌≤◌, Bool, true, false, not, cond, List, [], ◌∷◌, map, filter, length, get_or, set, Option, Some, None, is_some, Result, Ok, Err, is_ok, eqb, refl, sym, ◌∙◌, ap, subst, arith, ◌⊎◌, inl, inr}
+use Rattle.std.specs.Prelude.{T, MatchResult}
 use Rattle.std.specs.List.{insert, remove}
 use Rattle.std.specs.Ordering.{nat_cmp, eq_by_cmp}
 use Rattle.std.specs.declared.cmp.Ordering.TheVariants.{Equal}
@@ -11,7 +11,7 @@ use Rattle.std.proofs.lemmas.Bool.{cases_order}
 use Rattle.std.proofs.lemmas.Bool.Decides.{nat_tests}
 use Rattle.std.proofs.lemmas.List.{set-get_or, length-map}
 use Rattle.doll_table.specs.Ids.{IdSet, with_id, without_id, has_id, marked, Ascend, set_of}
-use Rattle.doll_table.proofs.Placed.{put_at, without_at, put_between, without_between, rise, map_insert, map_remove}
+use Rattle.doll_table.proofs.Placed.{found_at, missed_between, put_at, without_at, put_between, without_between, rise, map_insert, map_remove}
 
 pub is_test : (a b : ℕ) → eq_by_cmp nat_cmp a b ≡ eqb a b
 is_test a b = grind (arith, nat_tests)
@@ -43,6 +43,24 @@ as_without es id s =
     finite.same_map nat_cmp_total finite.nat_cmp-IsAntisymmetric (finite.from_sorted {R = nat_cmp} (where_key nat_cmp (λ x. not (eq_by_cmp nat_cmp id x)) es)) (finite.remove (finite.from_sorted {R = nat_cmp} es) id)
     (λ q. finite.get-from_sorted nat_cmp (where_key nat_cmp (λ x. not (eq_by_cmp nat_cmp id x)) es) q (is_sorted-where_key nat_cmp (λ x. not (eq_by_cmp nat_cmp id x)) es s)
     ∙ (find_without es id q ∙ sym (finite.get-remove nat_cmp_total (finite.from_sorted {R = nat_cmp} es) id q ∙ (ap (λ b. cond b None (finite.get (finite.from_sorted {R = nat_cmp} es) q)) (is_test q id) ∙ ap (λ o. cond (eqb q id) None o) (finite.get-from_sorted nat_cmp es q s)))))
+
+-- entries whose keys pass a test, as a map
+as_retained : (es : List (ℕ × Unit {0})) (p : ℕ → Bool) → T (is_sorted nat_cmp es) → finite.from_sorted {R = nat_cmp} (where_key nat_cmp p es) ≡ finite.retain_keys (finite.from_sorted {R = nat_cmp} es) p
+as_retained es p s =
+    finite.same_map nat_cmp_total finite.nat_cmp-IsAntisymmetric (finite.from_sorted {R = nat_cmp} (where_key nat_cmp p es)) (finite.retain_keys (finite.from_sorted {R = nat_cmp} es) p)
+    (λ q. finite.get-from_sorted nat_cmp (where_key nat_cmp p es) q (is_sorted-where_key nat_cmp p es s)
+    ∙ (find-where_key nat_cmp p q (tied q) es ∙ sym (finite.get-retain_keys (finite.from_sorted {R = nat_cmp} es) p q (tied q) ∙ ap (λ o. cond (p q) o None) (finite.get-from_sorted nat_cmp es q s))))
+  where
+    tied : (q x : ℕ) → nat_cmp q x ≡ Equal → p x ≡ p q
+    tied q x t = ap p (sym (equal_from q x t))
+
+marked_filter : (p : ℕ → Bool) (ids : List ℕ) → marked (filter p ids) ≡ where_key nat_cmp p (marked ids)
+marked_filter p [] = refl
+marked_filter p (x ∷ ids) = by_test (p x) (marked_filter p ids)
+  where
+    by_test : (b : Bool) → marked (filter p ids) ≡ where_key nat_cmp p (marked ids) → marked (cond b (x ∷ filter p ids) (filter p ids)) ≡ cond b ((x, tt) ∷ where_key nat_cmp p (marked ids)) (where_key nat_cmp p (marked ids))
+    by_test true rest = ap (λ es. (x, tt) ∷ es) rest
+    by_test false rest = rest
 
 length_marked : (ids : List ℕ) → length (marked ids) ≡ length ids
 length_marked ids = length-map ids (λ (id : ℕ). (id, tt))
@@ -117,6 +135,32 @@ module _ (ids s : List ℕ) (sorted : Ascend ids) (e : s ≡ ids) (id i : ℕ) w
   missed h =
       let g : WouldGo ids id i = rw e at h in
       ap (finite.from_sorted {R = nat_cmp}) (sym (without_between (marked ids) i id (omega (arith, g.0, length_marked ids)) (before_marked g) (after_marked g))) ∙ as_without (marked ids) id sorted
+
+  -- an id is there exactly where a search finds it
+  pub found : (i < length s) × (get_or s i 0 ≡ id) → has_id (set_of ids) id ≡ true
+  found h =
+      let l : i < length ids = rw e at h.0 in
+      let at : get_or ids i 0 ≡ id = rw e at h.1 in
+      ap is_some (finite.get-from_sorted nat_cmp (marked ids) id sorted ∙ found_at (marked ids) i id (0, tt) sorted (omega (arith, length_marked ids)) (mark_at ids i (0, tt) l ∙ at))
+
+  pub not_found : WouldGo s id i → has_id (set_of ids) id ≡ false
+  not_found h =
+      let g : WouldGo ids id i = rw e at h in
+      ap is_some (finite.get-from_sorted nat_cmp (marked ids) id sorted ∙ missed_between (marked ids) i id (omega (arith, g.0, length_marked ids)) (before_marked g) (after_marked g))
+
+-- whether an id is there, by what a search for it says
+pub is_there : (ids s : List ℕ) → Ascend ids → s ≡ ids → (id : ℕ) (r : Result ℕ ℕ) → MatchResult r (λ i. (i < length s) × (get_or s i 0 ≡ id)) (WouldGo s id) → is_ok r ≡ has_id (set_of ids) id
+is_there ids s sorted e id (Ok i) h = sym (found ids s sorted e id i h)
+is_there ids s sorted e id (Err i) h = sym (not_found ids s sorted e id i h)
+
+-- ids that pass a test
+pub retained : (ids after : List ℕ) (p : ℕ → Bool) → Ascend ids → after ≡ filter p ids → Leaves after (finite.retain_keys (set_of ids) p)
+retained ids after p sorted made =
+    let entries : marked after ≡ where_key nat_cmp p (marked ids) = ap marked made ∙ marked_filter p ids in
+    record {
+      ascend = subst (λ es. T (is_sorted nat_cmp es)) (sym entries) (is_sorted-where_key nat_cmp p (marked ids) sorted);
+      is = ap (finite.from_sorted {R = nat_cmp}) entries ∙ as_retained (marked ids) p sorted;
+    }
 
 keys_marked : (ids : List ℕ) → map (λ (e : ℕ × Unit {0}). e.0) (marked ids) ≡ ids
 keys_marked [] = refl

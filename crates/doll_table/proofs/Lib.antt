@@ -5,3 +5,5 @@ pub mod Kept
 pub mod Beyond
 pub mod Fitting
 pub mod Growing
+pub mod Fewer
+pub mod Without

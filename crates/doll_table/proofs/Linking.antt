@@ -58,7 +58,7 @@ all_step c h a i past = by_order (cases_order a i)
     by_order (inr (inr more)) = rw (le-ltb a i (omega arith), past (omega arith)) refl
 
 -- whether a record has a link at a place, by its key there
-names_at : (row : Row) (place parent i : ℕ) (key : Option ℕ) → slice_get row.parents i ≡ Some key → place ≡ i → names_parent place parent row ≡ option_map_or (λ k. eqb k parent) key false
+pub names_at : (row : Row) (place parent i : ℕ) (key : Option ℕ) → slice_get row.parents i ≡ Some key → place ≡ i → names_parent place parent row ≡ option_map_or (λ k. eqb k parent) key false
 names_at row place parent i key e same = ap (λ n. names_parent n parent row) same ∙ ap (λ o. option_map_or (λ k. eqb k parent) (option_and_then (λ k. k) o) false) e
 
 pub early_none : (row : Row) (id place parent child : ℕ) → is_early row id 0 place parent child ≡ false
@@ -103,7 +103,7 @@ has-without set id child = ap is_some (finite.get-remove nat_cmp_total set id ch
 pub has-none : (child : ℕ) → has_id finite.empty child ≡ false
 has-none child = ap is_some (finite.get-empty nat_cmp child)
 
-abbrev set_in : Option IdSet → IdSet
+abbrev pub set_in : Option IdSet → IdSet
 set_in ids = option_map_or (λ set. set) ids finite.empty
 
 has-more : (ids : Option IdSet) (id child : ℕ) → has_id (set_in (more_linked id ids)) child ≡ (eqb child id || has_id (set_in ids) child)

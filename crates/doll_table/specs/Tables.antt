@@ -1,5 +1,5 @@
 -- A table as a finite map: of each model, from ids to rows, with the id that its next row gets (this project's own).
-use Rattle.std.specs.Prelude.{ℕ, ◌==◌, Bool, false, List, [], map, filter, slice_get, slice_set, Option, option_and_then}
+use Rattle.std.specs.Prelude.{ℕ, ◌==◌, Bool, false, List, [], ◌∷◌, map, filter, slice_get, slice_set, Option, option_and_then}
 use Rattle.std.specs.Option.{option_map_or}
 use Rattle.std.specs.Ordering.{nat_cmp}
 use Rattle.std.specs.FinMap as finite
@@ -66,6 +66,24 @@ put_row table model id row = with_extent table model (λ extent. record extent {
 -- the table without the row under this id
 abbrev pub without_row : TableMap → ℕ → ℕ → TableMap
 without_row table model id = with_extent table model (λ extent. record extent { rows = finite.remove extent.rows id })
+
+-- the table without the rows of these records, each the number of its model and its id
+abbrev pub without_rows : TableMap → List (ℕ × ℕ) → TableMap
+without_rows table [] = table
+without_rows table (one ∷ records) = without_row (without_rows table records) one.0 one.1
+
+-- the rows without those under these ids
+abbrev pub without_ids : finite.FinMap nat_cmp Row → List ℕ → finite.FinMap nat_cmp Row
+without_ids rows [] = rows
+without_ids rows (id ∷ ids) = finite.remove (without_ids rows ids) id
+
+-- the ids of those of these records that are of a model
+abbrev pub ids_among : List (ℕ × ℕ) → ℕ → List ℕ
+ids_among records model = map (λ one. one.1) (filter (λ one. one.0 == model) records)
+
+-- an extent, with the number of its model, without the rows of these records
+abbrev pub extent_without : List (ℕ × ℕ) → ℕ × Extent → Extent
+extent_without records numbered = record numbered.1 { rows = without_ids numbered.1.rows (ids_among records numbered.0) }
 
 -- the table with this next id of a model
 abbrev pub put_next : TableMap → ℕ → ℕ → TableMap

@@ -1,11 +1,12 @@
 //! Ids in ascending order, which several owners may share.
 
-ghost use Rattle.std.specs.Prelude.{◌≡◌, ◌+◌, ◌<◌, ◌≤◌, ℕ, length, slice_index, vec_len, vec_capacity, MatchResult, IfOk, OnOk, OnErr};
+ghost use Rattle.std.specs.Prelude.{◌≡◌, ◌+◌, ◌<◌, ◌≤◌, ℕ, filter, length, slice_index, vec_len, vec_capacity, MatchResult, IfOk, OnOk, OnErr};
 ghost use Rattle.std.specs.FinMap as finite;
-ghost use Rattle.doll_table.specs.Ids.{Ascend, set_of, with_id, without_id};
-ghost use Rattle.doll_table.specs.Links.{HasMore, HasLess};
+ghost use Rattle.doll_table.specs.Ids.{Ascend, set_of, with_id, without_id, has_id};
+ghost use Rattle.doll_table.specs.Links.{HasMore, HasLess, living_ids};
 
 use crate::links::{Links, gain, lose};
+use doll_pages::PageMap;
 use doll_schema::Row;
 use doll_text::{Copied, Memory};
 use std::alloc::Global;
@@ -48,6 +49,13 @@ impl IdList {
         ensures { result.now ≡ finite.keys self.now }
     {
         self.ids.as_slice()
+    }
+
+    /// Whether an id is there.
+    pub fn contains(&self, id: u32) -> bool
+        ensures { result ≡ has_id self.now id }
+    {
+        seek(self.ids.as_slice(), id).is_ok()
     }
 
     /// Sees to it that no one else has these ids, by a copy of them where someone has.
@@ -132,6 +140,16 @@ impl IdList {
         take_id(ids, id);
         Ok(())
     }
+
+    /// Takes all ids away under which no row lives, in one pass. A refusal changes nothing.
+    pub fn keep_living(&mut self, alloc: Global, rows: &PageMap<Row>) -> Result<(), Memory>
+        ensures ok { OnOk result (self.new ≡ living_ids rows.now self.old) }
+        ensures err { OnErr result (self.new ≡ self.old) }
+    {
+        let living = living_of(alloc, self.ids.as_slice(), rows)?;
+        self.ids = Arc::new(alloc, living)?;
+        Ok(())
+    }
 }
 
 impl Copied for IdList {
@@ -150,10 +168,28 @@ fn copy_with_room(alloc: Global, ids: &[u32]) -> Result<Vec<u32>, Memory>
     Ok(copy)
 }
 
+/// The ids under which rows live.
+fn living_of(alloc: Global, ids: &[u32], rows: &PageMap<Row>) -> Result<Vec<u32>, Memory>
+    ensures { IfOk result
+        (λ living. living.items ≡ filter (λ id. finite.contains_key rows.now id) ids.now) }
+{
+    let mut living = Vec::with_capacity(alloc, ids.len())?;
+    for id in ids {
+        if rows.get(*id).is_some() {
+            living.push(*id)?;
+        }
+    }
+    Ok(living)
+}
+
 /// Where an id is in an ascending list, or would go.
 fn seek(ids: &[u32], id: u32) -> Result<usize, usize>
-    requires { (i j : ℕ) → i ≤ j → j < length ids.now → slice_index ids.now i ≤ slice_index ids.now j }
-    ensures { MatchResult result (λ i. (i < length ids.now) × (slice_index ids.now i ≡ id)) (λ i. (i ≤ length ids.now) × ((k : ℕ) → k < i → slice_index ids.now k < id) × ((k : ℕ) → i ≤ k → k < length ids.now → id < slice_index ids.now k)) }
+    requires { (i j : ℕ) → i ≤ j → j < length ids.now →
+        slice_index ids.now i ≤ slice_index ids.now j }
+    ensures { MatchResult result
+        (λ i. (i < length ids.now) × (slice_index ids.now i ≡ id))
+        (λ i. (i ≤ length ids.now) × ((k : ℕ) → k < i → slice_index ids.now k < id)
+        × ((k : ℕ) → i ≤ k → k < length ids.now → id < slice_index ids.now k)) }
 {
     ids.binary_search(&id)
 }

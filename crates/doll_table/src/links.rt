@@ -1,11 +1,11 @@
 //! The children of each record: for each place among the foreign keys of a model's rows, the ids under each parent.
 
-ghost use Rattle.std.specs.Prelude.{◌≡◌, ℕ, ◌&&◌, ◌==◌, if◌then◌else◌, IfOk, IfSome, OnOk, OnErr};
+ghost use Rattle.std.specs.Prelude.{◌≡◌, ℕ, false, ◌&&◌, ◌==◌, if◌then◌else◌, IfOk, IfSome, OnOk, OnErr};
 ghost use Rattle.std.specs.Bool.{Decides};
 ghost use Rattle.std.specs.FinMap as finite;
 ghost use Rattle.doll_table.specs.Ids.{has_id};
-ghost use Rattle.doll_table.specs.Tables.{names_parent};
-ghost use Rattle.doll_table.specs.Links.{linked, HasMore, HasLess};
+ghost use Rattle.doll_table.specs.Tables.{names_parent, without_ids};
+ghost use Rattle.doll_table.specs.Links.{linked, HasMore, HasLess, HasFewer, HasNone, HaveNone};
 
 use crate::id_list::IdList;
 use doll_pages::{Edit, InMap, PageMap, Slots};
@@ -60,6 +60,30 @@ impl Edit<IdList> for Less {
     }
 }
 
+/// Takes all children away that live no more, if a child is among them.
+#[derive(Drop)]
+struct Living<'a> {
+    id: u32,
+    rows: &'a PageMap<Row>,
+}
+
+impl<'a> Edit<IdList> for Living<'a> {
+    ghost use Rattle.doll_table.specs.Links.{living_linked};
+
+    ghost gives = { λ living ids. living_linked living.rows.now living.id ids };
+
+    fn make(self, alloc: Global, slot: &mut Option<IdList>) -> Result<(), Memory> {
+        let Living { id, rows } = self;
+        let Some(ids) = slot else {
+            return Ok(());
+        };
+        if ids.contains(id) {
+            return ids.keep_living(alloc, rows);
+        }
+        Ok(())
+    }
+}
+
 /// The children of a parent at a place, ascending.
 pub fn children(links: &Links, place: u16, parent: u32) -> &[u32]
     ensures { result.now ≡ finite.keys (linked links.now place parent) }
@@ -82,7 +106,8 @@ pub fn same_parents(a: &Row, b: &Row) -> bool
 
 /// The place and the parent of a record's one link, none where it has several or none.
 fn sole_link(row: &Row) -> Option<(usize, u32)>
-    ensures { IfSome result (λ sole. (place parent : ℕ) → names_parent place parent row.now ≡ (place == sole.0 && parent == sole.1)) }
+    ensures { IfSome result (λ sole. (place parent : ℕ) →
+        names_parent place parent row.now ≡ (place == sole.0 && parent == sole.1)) }
 {
     let mut found = None;
     for (place, parent) in row.parents.as_slice().iter().enumerate() {
@@ -130,8 +155,12 @@ pub fn lose(alloc: Global, links: &mut Links, row: &Row, id: u32) -> Result<(), 
 
 /// Links with those of a record's new row in the place of those of its old one.
 pub fn moved(alloc: Global, links: &Links, old: &Row, new: &Row, id: u32) -> Result<Links, Memory>
-    requires { (place parent : ℕ) → has_id (linked links.now place parent) id ≡ names_parent place parent old.now }
-    ensures { IfOk result (λ moved. (place parent child : ℕ) → has_id (linked moved place parent) child ≡ (if child == id then names_parent place parent new.now else has_id (linked links.now place parent) child)) }
+    requires { (place parent : ℕ) →
+        has_id (linked links.now place parent) id ≡ names_parent place parent old.now }
+    ensures { IfOk result (λ moved. (place parent child : ℕ) →
+        has_id (linked moved place parent) child ≡
+        (if child == id then names_parent place parent new.now
+        else has_id (linked links.now place parent) child)) }
 {
     let mut moved = links.copy(alloc)?;
     unlink(alloc, &mut moved, old, id)?;
@@ -159,6 +188,49 @@ fn unlink(alloc: Global, links: &mut Links, row: &Row, id: u32) -> Result<(), Me
     for (place, parent) in row.parents.as_slice().iter().enumerate() {
         if let Some(parent) = parent {
             let edit = Less { id };
+            links.edit(alloc, place, InMap { id: *parent, edit })?;
+        }
+    }
+    Ok(())
+}
+
+/// Takes the links away of the rows under ids that live no more. Each list of children is passed through once, since the
+/// first child that goes takes the others with it. After a refusal some may be gone.
+pub fn unlink_all(
+    alloc: Global,
+    links: &mut Links,
+    rows: &PageMap<Row>,
+    ids: &[u32],
+    living: &PageMap<Row>,
+) -> Result<(), Memory>
+    requires { living.now ≡ without_ids rows.now ids.now }
+    ensures fewer { OnOk result (HasFewer living.now links.old links.new) }
+    ensures none { OnOk result (HaveNone rows.now links.new ids.now) }
+{
+    for id in ids {
+        if let Some(row) = rows.get(*id) {
+            unlink_gone(alloc, links, row, *id, living)?;
+        }
+    }
+    Ok(())
+}
+
+/// Takes the links away of a row that lives no more, and of others that stand beside them. After a refusal some may be
+/// gone.
+fn unlink_gone(
+    alloc: Global,
+    links: &mut Links,
+    row: &Row,
+    id: u32,
+    living: &PageMap<Row>,
+) -> Result<(), Memory>
+    requires { finite.contains_key living.now id ≡ false }
+    ensures fewer { OnOk result (HasFewer living.now links.old links.new) }
+    ensures none { OnOk result (HasNone links.new row.now id) }
+{
+    for (place, parent) in row.parents.as_slice().iter().enumerate() {
+        if let Some(parent) = parent {
+            let edit = Living { id, rows: living };
             links.edit(alloc, place, InMap { id: *parent, edit })?;
         }
     }

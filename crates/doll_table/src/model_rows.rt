@@ -4,12 +4,12 @@ ghost use Rattle.std.specs.Prelude.{◌≡◌, ℕ, map, filter, IfOk, OnOk, OnE
 ghost use Rattle.std.specs.Option.{option_copied};
 ghost use Rattle.std.specs.FinMap as finite;
 ghost use Rattle.doll_schema.specs.declared.value.Row.{Row};
-ghost use Rattle.doll_table.specs.Tables.{names_parent};
+ghost use Rattle.doll_table.specs.Tables.{names_parent, without_ids};
 
 use crate::id_list::IdList;
 use crate::links;
 use crate::links::Links;
-use doll_pages::{PageMap, Put, Removal, Shared, Slots};
+use doll_pages::{PageMap, Put, Removal, Slots};
 use doll_schema::Row;
 use doll_text::{Copied, Memory};
 use std::alloc::Global;
@@ -18,7 +18,7 @@ use std::marker::Model;
 #[derive(Drop)]
 pub struct ModelRows {
     ids: IdList,
-    rows: PageMap<Shared<Row>>,
+    rows: PageMap<Row>,
     links: Links,
     next: u32,
 }
@@ -57,10 +57,7 @@ impl ModelRows {
     pub fn row(&self, id: u32) -> Option<&Row>
         ensures { option_copied result ≡ finite.get self.now.rows id }
     {
-        match self.rows.get(id) {
-            Some(row) => Some(row.get()),
-            None => None,
-        }
+        self.rows.get(id)
     }
 
     /// The living ids, ascending.
@@ -72,7 +69,9 @@ impl ModelRows {
 
     /// The ids of the rows whose key at a place names a parent, ascending.
     pub fn children(&self, place: u16, parent: u32) -> &[u32]
-        ensures { result.now ≡ map (λ (e : ℕ × Row). e.0) (filter (λ (e : ℕ × Row). names_parent place parent e.1) (finite.entries self.now.rows)) }
+        ensures { result.now ≡ map (λ (e : ℕ × Row). e.0)
+            (filter (λ (e : ℕ × Row). names_parent place parent e.1)
+            (finite.entries self.now.rows)) }
     {
         links::children(&self.links, place, parent)
     }
@@ -106,26 +105,25 @@ impl ModelRows {
 
     /// Puts a row under an id, in the place of what was there. A refusal changes nothing.
     pub fn put(&mut self, alloc: Global, id: u32, row: Row) -> Result<(), Memory>
-        ensures ok { OnOk result (self.new ≡ record self.old { rows = finite.insert self.old.rows id row }) }
+        ensures ok { OnOk result
+            (self.new ≡ record self.old { rows = finite.insert self.old.rows id row }) }
         ensures err { OnErr result (self.new ≡ self.old) }
     {
-        let value = Shared::new(alloc, row)?;
-        let row = value.copy(alloc)?;
         let Some(old) = self.rows.get(id) else {
+            let value = row.copy(alloc)?;
             let mut rows = self.rows.copy(alloc)?;
             rows.edit(alloc, id, Put { value })?;
-            self.ids
-                .insert_linked(alloc, id, &mut self.links, row.get())?;
+            self.ids.insert_linked(alloc, id, &mut self.links, &row)?;
             self.rows = rows;
             return Ok(());
         };
         // In most updates and each touch no link moves.
-        if links::same_parents(old.get(), row.get()) {
-            self.rows.edit(alloc, id, Put { value })?;
+        if links::same_parents(old, &row) {
+            self.rows.edit(alloc, id, Put { value: row })?;
             return Ok(());
         }
-        let links = links::moved(alloc, &self.links, old.get(), row.get(), id)?;
-        self.rows.edit(alloc, id, Put { value })?;
+        let links = links::moved(alloc, &self.links, old, &row, id)?;
+        self.rows.edit(alloc, id, Put { value: row })?;
         self.links = links;
         Ok(())
     }
@@ -133,7 +131,8 @@ impl ModelRows {
     /// Takes the row under an id away, if it lives. A refusal changes nothing.
     pub fn remove(&mut self, alloc: Global, id: u32) -> Result<bool, Memory>
         ensures lived { IfOk result (λ lived. lived ≡ finite.contains_key self.old.rows id) }
-        ensures ok { OnOk result (self.new ≡ record self.old { rows = finite.remove self.old.rows id }) }
+        ensures ok { OnOk result
+            (self.new ≡ record self.old { rows = finite.remove self.old.rows id }) }
         ensures err { OnErr result (self.new ≡ self.old) }
     {
         let Some(old) = self.rows.get(id) else {
@@ -141,9 +140,40 @@ impl ModelRows {
         };
         let mut rows = self.rows.copy(alloc)?;
         rows.edit(alloc, id, Removal)?;
-        self.ids
-            .remove_linked(alloc, id, &mut self.links, old.get())?;
+        self.ids.remove_linked(alloc, id, &mut self.links, old)?;
         self.rows = rows;
         Ok(true)
     }
+
+    /// Takes the rows under these ids away, those that live. No list is moved once for each: the ids of the model are
+    /// passed through once, and so are the children of each parent of these rows. A refusal changes nothing.
+    pub fn remove_all(&mut self, alloc: Global, ids: &[u32]) -> Result<(), Memory>
+        ensures ok { OnOk result
+            (self.new ≡ record self.old { rows = without_ids self.old.rows ids.now }) }
+        ensures err { OnErr result (self.new ≡ self.old) }
+    {
+        if ids.is_empty() {
+            return Ok(());
+        }
+        let mut living = self.rows.copy(alloc)?;
+        take_rows(alloc, &mut living, ids)?;
+        let mut links = self.links.copy(alloc)?;
+        links::unlink_all(alloc, &mut links, &self.rows, ids, &living)?;
+        self.ids.keep_living(alloc, &living)?;
+        self.rows = living;
+        self.links = links;
+        Ok(())
+    }
+}
+
+/// Takes the rows under these ids out of a map. After a refusal some may be gone.
+fn take_rows(alloc: Global, rows: &mut PageMap<Row>, ids: &[u32]) -> Result<(), Memory>
+    ensures { OnOk result (rows.new ≡ without_ids rows.old ids.now) }
+{
+    let mut left = ids.len();
+    while left > 0 {
+        left -= 1;
+        rows.edit(alloc, ids[left], Removal)?;
+    }
+    Ok(())
 }

@@ -32,17 +32,20 @@ pub trait Rows {
     fn row(&mut self, model: u16, id: u32) -> Option<&Row>
         requires { model < length (table self.old).schema.models }
         ensures row { option_copied result ≡ row_of (table self.old) model id }
-        ensures* after { sem 𝓛 (Rests Self.row self.entry (λ new. Looked (table self.old) (looks self.old) (table new) (looks new))) };
+        ensures* after { sem 𝓛 (Rests Self.row self.entry
+            (λ new. Looked (table self.old) (looks self.old) (table new) (looks new))) };
 
     /// The ids of a record's children, ascending.
     fn children(&mut self, assoc: Assoc, parent: u32) -> &[u32]
         requires { IsSome (many_of (table self.old).schema assoc.model assoc.has_many) }
         ensures ids { result.now ≡ children_of (table self.old) assoc.model assoc.has_many parent }
-        ensures* after { sem 𝓛 (Rests Self.row self.entry (λ new. Looked (table self.old) (looks self.old) (table new) (looks new))) };
+        ensures* after { sem 𝓛 (Rests Self.row self.entry
+            (λ new. Looked (table self.old) (looks self.old) (table new) (looks new))) };
 
     /// The living ids of a model, ascending.
     fn all(&mut self, model: u16) -> &[u32]
         requires { model < length (table self.old).schema.models }
         ensures ids { result.now ≡ ids_of (table self.old) model }
-        ensures* after { sem 𝓛 (Rests Self.row self.entry (λ new. Looked (table self.old) (looks self.old) (table new) (looks new))) };
+        ensures* after { sem 𝓛 (Rests Self.row self.entry
+            (λ new. Looked (table self.old) (looks self.old) (table new) (looks new))) };
 }

@@ -1,15 +1,15 @@
 //! A table of rows by model and id, kept in pages that several tables may share.
 
-ghost use Rattle.std.specs.Prelude.{◌≡◌, ◌<◌, length, is_some, IfOk, OnOk, OnErr, IsSome};
+ghost use Rattle.std.specs.Prelude.{◌≡◌, ◌<◌, length, map, is_some, IfOk, OnOk, OnErr, IsSome};
+ghost use Rattle.std.specs.List.{enumerate_from};
 ghost use Rattle.std.specs.Option.{option_copied};
-ghost use Rattle.doll_table.specs.Tables.{empty_table, row_of, ids_of, children_of, ids_under, next_of, put_row, without_row, put_next};
+ghost use Rattle.doll_table.specs.Tables.{empty_table, row_of, ids_of, children_of, ids_under, next_of, put_row, without_row, without_rows, ids_among, extent_without, put_next};
 ghost use Rattle.doll_table.specs.Fits.{Fits};
 
 use crate::model_rows::ModelRows;
 use crate::rows::Assoc;
-use doll_pages::Shared;
 use doll_schema::{Row, Schema};
-use doll_text::{Copied, Memory};
+use doll_text::{Copied, Memory, Shared};
 use std::alloc::Global;
 use std::marker::Model;
 
@@ -160,6 +160,18 @@ impl Table {
         let rows = &mut self.models[model as usize];
         rows.remove(self.alloc, id)
     }
+
+    /// Takes the rows of records away, each the number of its model and its id; one that doesn't live stays away. Beside
+    /// what each row costs, the ids of each of their models are passed through once, and the children of each of their
+    /// parents. A refusal changes nothing.
+    pub fn remove_all(&mut self, records: &[(u16, u32)]) -> Result<(), Memory>
+        ensures ok { OnOk result (self.new ≡ without_rows self.old records.now) }
+        ensures err { OnErr result (self.new ≡ self.old) }
+    {
+        let models = models_without(self.alloc, self.models.as_slice(), records)?;
+        self.models = models;
+        Ok(())
+    }
 }
 
 fn share_models(alloc: Global, models: &[ModelRows]) -> Result<Vec<ModelRows>, Memory>
@@ -170,4 +182,48 @@ fn share_models(alloc: Global, models: &[ModelRows]) -> Result<Vec<ModelRows>, M
         copy.push(rows.share(alloc)?)?;
     }
     Ok(copy)
+}
+
+#[tactic(auto, using(crate::proofs::Without::left_more))]
+fn models_without(
+    alloc: Global,
+    models: &[ModelRows],
+    records: &[(u16, u32)],
+) -> Result<Vec<ModelRows>, Memory>
+    ensures { IfOk result
+        (λ left. left.items ≡ map (extent_without records.now) (enumerate_from 0 models.now)) }
+{
+    let mut left = Vec::new(alloc);
+    for (number, rows) in models.iter().enumerate() {
+        left.push(model_without(alloc, rows, number, records)?)?;
+    }
+    Ok(left)
+}
+
+/// The rows of the model with this number without those of these records.
+fn model_without(
+    alloc: Global,
+    rows: &ModelRows,
+    number: usize,
+    records: &[(u16, u32)],
+) -> Result<ModelRows, Memory>
+    ensures { IfOk result (λ left. left ≡ extent_without records.now (number, rows.now)) }
+{
+    let ids = ids_among(alloc, records, number)?;
+    let mut left = rows.share(alloc)?;
+    left.remove_all(alloc, ids.as_slice())?;
+    Ok(left)
+}
+
+/// The ids of those of these records that are of the model with this number.
+fn ids_among(alloc: Global, records: &[(u16, u32)], number: usize) -> Result<Vec<u32>, Memory>
+    ensures { IfOk result (λ ids. ids.items ≡ ids_among records.now number) }
+{
+    let mut ids = Vec::new(alloc);
+    for (model, id) in records {
+        if *model as usize == number {
+            ids.push(*id)?;
+        }
+    }
+    Ok(ids)
 }

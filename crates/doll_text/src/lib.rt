@@ -6,6 +6,7 @@ pub mod bytes;
 pub mod copies;
 pub mod memory;
 pub mod segments;
+pub mod shared;
 pub mod text;
 pub mod words;
 
@@ -13,6 +14,7 @@ pub use bytes::{ByteKind, SLASH, is_space, prefix_len};
 pub use copies::{Copied, copy_list};
 pub use memory::Memory;
 pub use segments::is_virtual_path;
+pub use shared::Shared;
 pub use sqlite_items::{Boxed, Items};
 pub use text::{Bytes, Ids, Name, Text};
 pub use words::{Word, is_name};

@@ -1,7 +1,7 @@
 use Rattle.std.proofs.Common.{sym, ◌∙◌, ap}
 use Rattle.std.specs.List.{flat_map}
 use Rattle.doll_commit.specs.Refs.{with_refs}
-use Rattle.doll_commit.specs.Removed.{without_rows}
+use Rattle.doll_table.specs.Tables.{without_rows}
 use Rattle.doll_commit.specs.Commits.{Course, touch_parents}
 use Rattle.doll_commit.specs.Answers.{seen}
 use Rattle.doll_commit.proofs.Making.{restricted_is, destroyed_went, destroyed_fits, removed_within}

@@ -1,7 +1,6 @@
-use Rattle.std.proofs.Common.{◌∙◌, ap, subst}
+use Rattle.std.proofs.Common.{◌∙◌, ap}
 use Rattle.std.specs.FinMap as finite
 use Rattle.doll_table.specs.Tables.{Extent}
-use Rattle.doll_table.specs.Links.{HasLess}
 use Rattle.doll_table.proofs.Kept.{kept_lost, not_there}
 use Rattle.doll_table.proofs.model_rows.ModelRows.remove.Goals as goal
 
@@ -14,4 +13,4 @@ pub invariant_of-self-2 : goal.invariant_of-self-2
 invariant_of-self-2 c =
     kept_lost c.self.inside.rows c.self.inside.ids c.self.inside.links c.self.invariant c.args.id c.in-Some.old.now c.edit.new.self c.remove_linked.new.self c.remove_linked.new.links
     c.in-Some.ensures (c.in_ok-edit.ensures.ok ∙ ap (λ m. finite.remove m c.args.id) c.in_ok-rows.ensures) c.in_ok-remove_linked.ensures.ok
-    (subst (λ r. HasLess c.self.inside.links c.remove_linked.new.links r c.args.id) c.get-2.ensures c.in_ok-remove_linked.ensures.links)
+    c.in_ok-remove_linked.ensures.links

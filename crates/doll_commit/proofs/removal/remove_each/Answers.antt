@@ -1,11 +1,10 @@
 use Rattle.std.proofs.Common.{◌≡◌, ◌+◌, ◌-◌, ◌<◌, length, drop, get_or, sym, ap, subst, ◌∙◌, arith}
 use Rattle.doll_schema.specs.declared.model.Schema.{Schema}
-use Rattle.doll_table.specs.Tables.{TableMap, without_row}
+use Rattle.doll_table.specs.Tables.{TableMap, without_row, without_rows}
 use Rattle.doll_commit.specs.Refs.{Ref}
-use Rattle.doll_commit.specs.Removed.{without_rows}
 use Rattle.doll_commit.proofs.Closures.{has_at}
 use Rattle.doll_commit.proofs.Removing.{without_at}
-use Rattle.doll_commit.proofs.removal.remove_all.Goals as goal
+use Rattle.doll_commit.proofs.removal.remove_each.Goals as goal
 
 pub remove-requires : goal.remove-requires
 remove-requires c =

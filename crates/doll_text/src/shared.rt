@@ -2,7 +2,8 @@
 
 ghost use Rattle.std.specs.Prelude.{◌≡◌, IfOk};
 
-use doll_text::{Copied, Memory};
+use crate::copies::Copied;
+use crate::memory::Memory;
 use std::alloc::Global;
 use std::marker::Model;
 use std::sync::Arc;

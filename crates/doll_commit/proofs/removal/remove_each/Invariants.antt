@@ -1,6 +1,6 @@
 use Rattle.std.proofs.Common.{◌≡◌, ◌≤◌, drop, length}
-use Rattle.doll_commit.specs.Removed.{without_rows}
-use Rattle.doll_commit.proofs.removal.remove_all.Given as goal
+use Rattle.doll_table.specs.Tables.{without_rows}
+use Rattle.doll_commit.proofs.removal.remove_each.Given as goal
 
 -- the records behind those that are left are taken away
 abbrev pub invariant-loop-left : goal.invariant-loop-left
