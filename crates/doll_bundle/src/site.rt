@@ -59,7 +59,7 @@ impl Site {
         ensures { result ≡ living self.now id }
     {
         let id = id?;
-        if self.table.as_table().row(self.pages.model, id).is_some() {
+        if self.table.get().row(self.pages.model, id).is_some() {
             Some(id)
         } else {
             None
@@ -79,7 +79,7 @@ impl Site {
             id,
         };
         vars.push((pages.owner.copy(alloc)?, record))?;
-        let mut rows = Looking::new(self.table.as_table());
+        let mut rows = Looking::new(self.table.get());
         page(alloc, &pages.tree, vars, &pages.schema, &mut rows)
     }
 }

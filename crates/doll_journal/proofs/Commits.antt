@@ -19,7 +19,7 @@ use Rattle.doll_journal.specs.declared.change.Commit.{Commit}
 use Rattle.doll_journal.specs.declared.fault.JournalFault.{JournalFault}
 use Rattle.doll_journal.specs.declared.fault.JournalFault.TheVariants.{TooLarge, Trailing}
 use Rattle.doll_journal.specs.Fields.{offset, Field, number_field, text_field, two, tagged}
-use Rattle.doll_journal.specs.Reading.{value_cases, value_field, pair_field, given_field, create_field, update_field, model_id_field, change_cases, change_field, changes_field, commit_field, commit_of}
+use Rattle.doll_journal.specs.Reading.{value_cases, value_field, pair_field, given_field, create_field, update_field, model_id_field, change_cases, change_field, changes_field, commit_field, commit_in}
 use Rattle.doll_journal.specs.Spelling.{text_bytes, value_bytes, pair_bytes, given_bytes, change_bytes, changes_bytes, spelling}
 use Rattle.doll_journal.specs.Storable.{FitsValue, FitsPair, FitsChange, IsStorable, OneSpelling}
 use Rattle.doll_journal.proofs.Fields.{IsBytes, bind_ok, check_ok, ok_is, IsField, wide32, wide64, number_laws, text_laws, two_laws, made_laws, counted_laws, IsCase, nothing_case, made_case, tagged_laws}
@@ -141,8 +141,8 @@ spelling_len : (c : Commit) → length (spelling c) ≡ 20 + length (changes_byt
 spelling_len c = omega arith
 
 -- what is read is spelled so
-pub all_takes : (bytes : List ℕ) (c : Commit) → IsBytes bytes → commit_of bytes ≡ Ok c → (bytes ≡ spelling c) × IsStorable c
-unfolding commit_of
+pub all_takes : (bytes : List ℕ) (c : Commit) → IsBytes bytes → commit_in bytes ≡ Ok c → (bytes ≡ spelling c) × IsStorable c
+unfolding commit_in
 all_takes bytes c fits e =
     let g = check_ok (nat_le (length bytes) MOST_BYTES) (TooLarge MOST_BYTES) (commit_field (length bytes) bytes >>= (λ commit. check (length commit.1 == 0) (Trailing (offset (length bytes) commit.1)) >> Ok commit.0)) c e in
     let a = bind_ok (commit_field (length bytes) bytes) (λ commit. check (length commit.1 == 0) (Trailing (offset (length bytes) commit.1)) >> Ok commit.0) c g.1 in
@@ -155,8 +155,8 @@ all_takes bytes c fits e =
     subst (λ (d : Commit). (bytes ≡ spelling d) × IsStorable d) (ok_is a.0.0 c h.1) (whole, (t.1.0, t.1.1, t.1.2, (t.1.3, room)))
 
 -- what is spelled so is read
-pub all_again : (c : Commit) → IsStorable c → commit_of (spelling c) ≡ Ok c
-unfolding commit_of
+pub all_again : (c : Commit) → IsStorable c → commit_in (spelling c) ≡ Ok c
+unfolding commit_in
 all_again c fits =
     let room : nat_le (length (spelling c)) MOST_BYTES ≡ true = le-leb _ _ (omega (arith, fits.3.1, spelling_len c)) in
     let total = length (spelling c) in
@@ -164,14 +164,14 @@ all_again c fits =
     rw (room, read) refl
 
 -- the same of what the call gave
-pub is_found : (memory_fault : JournalFault) (bytes : List ℕ) (r : Result Commit JournalFault) → IsBytes bytes → Gives memory_fault (commit_of bytes) r → IfOk r (λ c. (bytes ≡ spelling c) × IsStorable c)
+pub is_found : (memory_fault : JournalFault) (bytes : List ℕ) (r : Result Commit JournalFault) → IsBytes bytes → Gives memory_fault (commit_in bytes) r → IfOk r (λ c. (bytes ≡ spelling c) × IsStorable c)
 is_found memory_fault bytes (Ok c) fits given = all_takes bytes c fits given
 is_found memory_fault bytes (Err e) fits given = tt
 
-pub is_read : (memory_fault : JournalFault) (bytes : List ℕ) (r : Result Commit JournalFault) (c : Commit) → Gives memory_fault (commit_of bytes) r → IsStorable c → bytes ≡ spelling c → Gives memory_fault (Ok c) r
+pub is_read : (memory_fault : JournalFault) (bytes : List ℕ) (r : Result Commit JournalFault) (c : Commit) → Gives memory_fault (commit_in bytes) r → IsStorable c → bytes ≡ spelling c → Gives memory_fault (Ok c) r
 is_read memory_fault bytes r c given fits is =
-    let read : commit_of bytes ≡ Ok c = ap commit_of is ∙ all_again c fits in
+    let read : commit_in bytes ≡ Ok c = ap commit_in is ∙ all_again c fits in
     subst (λ expected. Gives memory_fault expected r) read given
 
 pub one_spelling : OneSpelling
-one_spelling c d c_fits d_fits same = ok_is c d (sym (all_again c c_fits) ∙ ap commit_of same ∙ all_again d d_fits)
+one_spelling c d c_fits d_fits same = ok_is c d (sym (all_again c c_fits) ∙ ap commit_in same ∙ all_again d d_fits)

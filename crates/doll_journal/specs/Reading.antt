@@ -69,8 +69,8 @@ commit_field total =
     (two (number_field w32 total) (two (number_field w64 total) (two (number_field w64 total) (changes_field total))))
 
 -- all of the bytes as a commit, of which there are not too many
-unfoldable pub commit_of : List ℕ → Result Commit JournalFault
-commit_of bytes = do
+unfoldable pub commit_in : List ℕ → Result Commit JournalFault
+commit_in bytes = do
   check (nat_le (length bytes) MOST_BYTES) (TooLarge MOST_BYTES)
   commit ← commit_field (length bytes) bytes
   check (length commit.1 == 0) (Trailing (offset (length bytes) commit.1))

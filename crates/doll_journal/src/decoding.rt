@@ -8,7 +8,7 @@ ghost use Rattle.doll_journal.specs.Spelling.{spelling};
 ghost use Rattle.doll_journal.specs.Storable.{IsStorable, OneSpelling};
 ghost use Rattle.doll_text.specs.Gives.{GivesBy, GivesExactly};
 ghost use Rattle.doll_journal.specs.Fields.{offset, byte_field, number_field, text_field, repeated, field_behind};
-ghost use Rattle.doll_journal.specs.Reading.{value_cases, value_field, pair_field, given_field, create_field, update_field, model_id_field, change_cases, change_field, changes_field, commit_field, commit_of};
+ghost use Rattle.doll_journal.specs.Reading.{value_cases, value_field, pair_field, given_field, create_field, update_field, model_id_field, change_cases, change_field, changes_field, commit_field, commit_in};
 
 use crate::change::{Change, Changes, Commit, Given};
 use crate::fault::JournalFault;
@@ -25,14 +25,14 @@ use std::alloc::Global;
 /// The commit whose bytes these are, all of them.
 pub fn decode(alloc: Global, bytes: &[u8]) -> Result<Commit, JournalFault>
     // Which commit or fault it is.
-    ensures exact { Gives JournalFault.Memory (commit_of bytes.now) result }
+    ensures exact { Gives JournalFault.Memory (commit_in bytes.now) result }
     // What is read is spelled so.
     ensures found { IfOk result (λ c. (bytes.now ≡ spelling c) × IsStorable c) }
     // What is spelled so is read, unless memory runs out.
     ensures only { (c : Commit) → IsStorable c → bytes.now ≡ spelling c → Gives JournalFault.Memory
         (Ok c) result }
 {
-    commit_of(alloc, bytes)
+    commit_in(alloc, bytes)
 }
 
 /// No two commits are spelled alike.
@@ -40,9 +40,9 @@ pub fn one_spelling()
     ensures { OneSpelling }
 {}
 
-#[tactic(auto, unfolding(crate::specs::Reading::commit_of))]
-fn commit_of(alloc: Global, bytes: &[u8]) -> Result<Commit, JournalFault>
-    ensures { Gives JournalFault.Memory (commit_of bytes.now) result }
+#[tactic(auto, unfolding(crate::specs::Reading::commit_in))]
+fn commit_in(alloc: Global, bytes: &[u8]) -> Result<Commit, JournalFault>
+    ensures { Gives JournalFault.Memory (commit_in bytes.now) result }
 {
     if bytes.len() as u64 > MOST_BYTES {
         return Err(JournalFault::TooLarge { limit: MOST_BYTES });

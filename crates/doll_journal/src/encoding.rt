@@ -2,6 +2,7 @@
 
 ghost use Rattle.std.specs.Prelude.{◌≡◌, ◌<◌, ◌≤◌, ◌^◌, ◌++◌, ◌∷◌, length, IfOk, OnOk};
 ghost use Rattle.std.specs.Int.{w32, to_be_bytes};
+ghost use Rattle.doll_journal.specs.declared.lengths.TheConstants.{MOST_BYTES};
 ghost use Rattle.doll_journal.specs.Spelling.{text_bytes, value_bytes, pair_bytes, given_bytes, change_bytes, changes_bytes, spelling};
 
 use crate::change::{Change, Commit};
@@ -16,7 +17,7 @@ use std::alloc::Global;
 /// The one spelling of the commit, which has `2^31` bytes at most: so it is where `are_storable` says yes of its changes,
 /// whoever makes it and whenever.
 pub fn encode(alloc: Global, commit: &Commit) -> Result<Vec<u8>, Memory>
-    requires { length (spelling commit.now) ≤ 2 ^ 31 }
+    requires { length (spelling commit.now) ≤ MOST_BYTES }
     ensures { IfOk result (λ v. v.items ≡ spelling commit.now) }
 {
     let mut out = Vec::new(alloc);

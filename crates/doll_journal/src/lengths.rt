@@ -15,7 +15,7 @@ const CAP: u64 = 4_294_967_296;
 
 /// Whether a commit may have these changes: its bytes are `2^31` at most, of which 20 stand before the changes.
 pub fn have_room(changes: &[Change]) -> bool
-    ensures { result ≡ nat_le (20 + length (changes_bytes changes.now)) (2 ^ 31) }
+    ensures { result ≡ nat_le (20 + length (changes_bytes changes.now)) MOST_BYTES }
 {
     20 + changes_len(changes) <= MOST_BYTES
 }

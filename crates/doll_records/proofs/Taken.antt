@@ -17,22 +17,22 @@ use Rattle.doll_records.specs.Openings.{or_journal, or_apply, opened_with}
 use Rattle.doll_records.proofs.Growing.{table_is}
 
 pub unread : (schema : Schema) (history : List Commit) (index : ℕ) (item : List ℕ) (e : OpenFault) → index ≡ length history
-    → or_journal index (journal.commit_of item) ≡ Err e → opened_with schema history item ≡ Err e
+    → or_journal index (journal.commit_in item) ≡ Err e → opened_with schema history item ≡ Err e
 unfolding opened_with
 unread schema history index item e at is = rw (← at, is) refl
 
 pub early : (schema : Schema) (history : List Commit) (table : TableMap) (last index : ℕ) (item : List ℕ) (commit : Commit) → Holds schema history table last → index ≡ length history
-    → or_journal index (journal.commit_of item) ≡ Ok commit → follows last commit ≡ false → opened_with schema history item ≡ Err (opens.Moment index commit.moment)
+    → or_journal index (journal.commit_in item) ≡ Ok commit → follows last commit ≡ false → opened_with schema history item ≡ Err (opens.Moment index commit.moment)
 unfolding opened_with
 early schema history table last index item commit holds at is f = rw (← at, is, ← holds.moment, f) refl
 
 pub unapplied : (schema : Schema) (history : List Commit) (table : TableMap) (last index : ℕ) (item : List ℕ) (commit : Commit) (e : OpenFault) → Holds schema history table last → index ≡ length history
-    → or_journal index (journal.commit_of item) ≡ Ok commit → follows last commit ≡ true → or_apply index (commit_of table schema commit) ≡ Err e → opened_with schema history item ≡ Err e
+    → or_journal index (journal.commit_in item) ≡ Ok commit → follows last commit ≡ true → or_apply index (commit_of table schema commit) ≡ Err e → opened_with schema history item ≡ Err e
 unfolding opened_with
 unapplied schema history table last index item commit e holds at is f refused = rw (← at, is, ← holds.moment, f, table_is schema history table last holds, refused) refl
 
 pub taken : (schema : Schema) (history : List Commit) (table : TableMap) (last index : ℕ) (item : List ℕ) (commit : Commit) (applied : Applied) → Holds schema history table last → index ≡ length history
-    → or_journal index (journal.commit_of item) ≡ Ok commit → follows last commit ≡ true → or_apply index (commit_of table schema commit) ≡ Ok applied → opened_with schema history item ≡ Ok (history ++ commit ∷ [])
+    → or_journal index (journal.commit_in item) ≡ Ok commit → follows last commit ≡ true → or_apply index (commit_of table schema commit) ≡ Ok applied → opened_with schema history item ≡ Ok (history ++ commit ∷ [])
 unfolding opened_with
 taken schema history table last index item commit applied holds at is f ok = rw (← at, is, ← holds.moment, f, table_is schema history table last holds, ok) refl
 

@@ -30,8 +30,8 @@ or_refused (Ok applied) = Ok applied
 or_refused (Err fault) = Err (record_commit_fault fault)
 
 -- what was made of a commit that is prepared
-abbrev pub made : Prepared → Applied
-made prepared = record { table = prepared.table; ids = prepared.ids }
+abbrev pub applied_in : Prepared → Applied
+applied_in prepared = record { table = prepared.table; ids = prepared.ids }
 
 -- what a commit after a history comes to, while the keeper serves and memory is found
 abbrev pub committed : Schema → List Commit → Commit → Result Committed RecordFault

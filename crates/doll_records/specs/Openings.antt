@@ -33,7 +33,7 @@ or_apply index (Err commits.Memory) = Err opens.Memory
 -- a history with the commit of the next item, or the item's first fault
 unfoldable pub opened_with : Schema → List Commit → List ℕ → Result (List Commit) OpenFault
 opened_with schema history item = do
-  commit ← or_journal (length history) (journal.commit_of item)
+  commit ← or_journal (length history) (journal.commit_in item)
   check (follows (last_moment 0 history) commit) (opens.Moment (length history) commit.moment)
   applied ← or_apply (length history) (commit_of (table_of schema history) schema commit)
   Ok (history ++ commit ∷ [])

@@ -5,13 +5,14 @@ ghost use Rattle.doll_base.specs.Faults.{KeepsCount, HasCause};
 ghost use Rattle.doll_keep.specs.Calls.{Append};
 ghost use Rattle.doll_keep.specs.Kept.{Added, has_failed};
 ghost use Rattle.doll_text.specs.Gives.{GivesBy};
+ghost use Rattle.doll_journal.specs.declared.lengths.TheConstants.{MOST_BYTES};
 ghost use Rattle.doll_journal.specs.Spelling.{spelling};
 ghost use Rattle.doll_journal.specs.Storable.{AreStorable};
 ghost use Rattle.doll_table.specs.Fits.{Fits};
 ghost use Rattle.doll_commit.specs.Commits.{commit_of};
 ghost use Rattle.doll_commit.specs.Moments.{CarriesMoment};
 ghost use Rattle.doll_records.specs.Histories.{next_moment};
-ghost use Rattle.doll_records.specs.Commitments.{asked_at, asked, or_refused, made, GivesCommitted, IsUnrefused, TableCarriesMoment, CalledOnce};
+ghost use Rattle.doll_records.specs.Commitments.{asked_at, asked, or_refused, applied_in, GivesCommitted, IsUnrefused, TableCarriesMoment, CalledOnce};
 ghost use Rattle.doll_records.specs.declared.fault.RecordFault.TheVariants as faults;
 
 use crate::fault::RecordFault;
@@ -51,8 +52,8 @@ fn prepare(
     commit: &Commit,
 ) -> Result<Prepared, RecordFault>
     requires fits { Fits schema.now table.now }
-    requires room { length (spelling commit.now) ≤ 2 ^ 31 }
-    ensures exact { GivesBy made faults.Memory
+    requires room { length (spelling commit.now) ≤ MOST_BYTES }
+    ensures exact { GivesBy applied_in faults.Memory
         (or_refused (commit_of table.now schema.now commit.now)) result }
     ensures bytes { IfOk result (λ prepared. prepared.bytes.items ≡ spelling commit.now) }
     ensures fits { IfOk result (λ prepared. Fits schema.now prepared.table) }
@@ -152,7 +153,7 @@ impl<K: Keeper> Records<K> {
         let Prepared { table, bytes, ids } = prepare(
             alloc,
             &self.schema,
-            self.table.as_table(),
+            self.table.get(),
             &commit,
         )?;
         self.history.reserve(1)?;

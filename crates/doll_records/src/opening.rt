@@ -56,7 +56,7 @@ fn no_past(alloc: Global, schema: &Schema) -> Result<Past, Memory>
 
 /// The commit of the item with an index.
 fn commit_in(alloc: Global, index: u64, item: &[u8]) -> Result<Commit, OpenFault>
-    ensures exact { Gives OpenFault.Memory (or_journal index (journal.commit_of item.now)) result }
+    ensures exact { Gives OpenFault.Memory (or_journal index (journal.commit_in item.now)) result }
     ensures spelled { IfOk result (λ commit. (item.now ≡ spelling commit) × IsStorable commit) }
     ensures at { IfErr result (λ fault. IsOfItem index fault) }
 {

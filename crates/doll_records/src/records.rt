@@ -11,53 +11,12 @@ use doll_journal::Commit;
 use doll_keep::Keeper;
 use doll_schema::Schema;
 use doll_table::Table;
-use doll_text::Memory;
-use std::alloc::{AllocError, Global};
+use doll_text::{Copied, Memory, Shared};
+use std::alloc::Global;
 use std::marker::Model;
-use std::sync::Arc;
 
-/// A table with several owners.
-#[derive(Drop)]
-pub struct SharedTable {
-    table: Arc<Table>,
-}
-
-impl Model for SharedTable {
-    ghost use Rattle.std.specs.Arc.{arc_value};
-    ghost use Rattle.doll_table.specs.Tables.{TableMap};
-    ghost use Rattle.doll_table.specs.Codes.{table_code};
-
-    ghost Value = { TableMap };
-
-    ghost coded = { table_code };
-
-    ghost view = { λ s. arc_value s.table };
-}
-
-impl SharedTable {
-    /// A table with one owner so far.
-    pub fn new(alloc: Global, table: Table) -> Result<SharedTable, Memory>
-        ensures { IfOk result (λ shared. shared ≡ table) }
-    {
-        let table = Arc::new(alloc, table)?;
-        Ok(SharedTable { table })
-    }
-
-    /// The same table with one owner more. No row is copied.
-    pub fn share(&self) -> Result<SharedTable, AllocError>
-        ensures { IfOk result (λ shared. shared ≡ self.now) }
-    {
-        let table = Arc::try_clone(&self.table)?;
-        Ok(SharedTable { table })
-    }
-
-    /// The table.
-    pub fn as_table(&self) -> &Table
-        ensures { result.now ≡ self.now }
-    {
-        &self.table
-    }
-}
+/// A table with several owners. A copy is one owner more; no row is copied.
+pub type SharedTable = Shared<Table>;
 
 /// The table after the first commits of a history.
 #[derive(Drop)]
@@ -111,7 +70,7 @@ impl<K: Keeper> Records<K> {
     }
 
     /// The table after all commits so far. No row is copied.
-    pub fn snapshot(&self, _alloc: Global) -> Result<Snapshot, Memory>
+    pub fn snapshot(&self, alloc: Global) -> Result<Snapshot, Memory>
         ensures table { IfOk result (λ snapshot.
             table_at self.now.schema self.now.history snapshot.place ≡ Some snapshot.table) }
         ensures whole { IfOk result (λ snapshot.
@@ -121,7 +80,7 @@ impl<K: Keeper> Records<K> {
             snapshot.moment ≡ moment_at self.now.history snapshot.place) }
         ensures fits { IfOk result (λ snapshot. Fits self.now.schema snapshot.table) }
     {
-        let table = self.table.share()?;
+        let table = self.table.copy(alloc)?;
         Ok(Snapshot {
             table,
             place: self.history.len() as u64,
