@@ -12,3 +12,5 @@ mod clocks;
 mod faults;
 #[cfg(test)]
 mod pages;
+#[cfg(test)]
+mod shares;
