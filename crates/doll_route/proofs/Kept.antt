@@ -16,9 +16,9 @@ use Rattle.matchit.specs.Seek.{first, has_slash, or_else}
 use Rattle.matchit.proofs.ParamLemmas.{same_text-differ}
 use Rattle.doll_route.specs.declared.route.Route.{Route}
 use Rattle.doll_route.specs.declared.route.Subject.TheVariants as subject
-use Rattle.doll_route.specs.Paths.{asked, before_id, digits_from, id_behind, id_of, names_id}
-use Rattle.doll_route.specs.Routes.{AreRoutes, IsRoute, IsFoundIn, IsTheOnly, answers, found_as, found_at, has_path, number_of, route_of}
-use Rattle.doll_route.specs.Rows.{AddsRow, HasRows, HavePatterns, number_in, pattern_of}
+use Rattle.doll_route.specs.Paths.{requested, before_id, digits_from, id_behind, id_of, names_id}
+use Rattle.doll_route.specs.Routes.{AreRoutes, IsRoute, IsFoundIn, IsTheOnly, answers, found_as, found_at, has_path, found_number, route_of}
+use Rattle.doll_route.specs.Rows.{AddsRow, HasRows, HavePatterns, row_number, pattern_of}
 use Rattle.doll_route.proofs.Apart.{lookup-other, lookup-placed, none-near, placed-patterns}
 use Rattle.doll_route.proofs.Patterns.{Shape, pattern, same_path, shape_of}
 use Rattle.doll_route.proofs.Search.{first-finds, no-number, starts_behind, starts_behind-slash, wild, wild-front}
@@ -96,13 +96,13 @@ rows-pushed routes old new r has are is fresh adds = record {
     own : List ℕ
     own = pattern_of r.path
 
-    each : (n : ℕ) (q : Route) → (slice_get routes n ≡ Some q) ⊎ ((n ≡ length routes) × (r ≡ q)) → number_in (lookup (pattern_of q.path) (placed (own, adds.0) old)) ≡ Some n
+    each : (n : ℕ) (q : Route) → (slice_get routes n ≡ Some q) ⊎ ((n ≡ length routes) × (r ≡ q)) → row_number (lookup (pattern_of q.path) (placed (own, adds.0) old)) ≡ Some n
     each n q (inl p) =
         let differ : own ≢ pattern_of q.path = λ same. no_path routes r.path n q fresh p (same_path r.path q.path (shape_of r.path is.path) (shape_of q.path (are.each n q p).path) same) in
-        ap number_in (lookup-other (pattern_of q.path) own adds.0 old (same_text-differ own (pattern_of q.path) differ)) ∙ has.each n q p
+        ap row_number (lookup-other (pattern_of q.path) own adds.0 old (same_text-differ own (pattern_of q.path) differ)) ∙ has.each n q p
     each n q (inr p) =
         let found : lookup own (placed (own, adds.0) old) ≡ Some adds.0 = lookup-placed own adds.0 old (rows-fresh routes old r has are is fresh) in
-        let number : number_in (lookup own (placed (own, adds.0) old)) ≡ Some n = ap number_in found ∙ ap Some (adds.1 ∙ sym p.0) in
+        let number : row_number (lookup own (placed (own, adds.0) old)) ≡ Some n = ap row_number found ∙ ap Some (adds.1 ∙ sym p.0) in
         rw (← p.1) number
 
 -- ---- the row that a path finds
@@ -153,19 +153,19 @@ id-digits digits some =
     let parts = and_both (fits && plain && long) all test in
     ((and_both (fits && plain) long parts.0).1, parts.1)
 
-found-first : (rows : RowsOf (RouteOf ℕ)) (path own : List ℕ) (n : ℕ) → HavePatterns false rows → Shape own → is_some (asked own path) ≡ true
-    → number_in (lookup (pattern_of own) rows) ≡ Some n → number_in (first rows path) ≡ Some n
-found-first rows path own n have (inl p) asks row =
+finds-first : (rows : RowsOf (RouteOf ℕ)) (path own : List ℕ) (n : ℕ) → HavePatterns false rows → Shape own → is_some (requested own path) ≡ true
+    → row_number (lookup (pattern_of own) rows) ≡ Some n → row_number (first rows path) ≡ Some n
+finds-first rows path own n have (inl p) asks row =
     let yes : Option (Option ℕ) = Some None in
     let test : is_some (cond (bytes_eq path own) yes None) ≡ true = rw p.0 at asks in
     let same : path ≡ own = (bytes_eq-Decides path own).0 (then_true (bytes_eq path own) yes test).0 in
-    let here : number_in (lookup path rows) ≡ Some n = rw (p.0, sym same) at row in
-    ap number_in (first-finds path false rows have) ∙ by (lookup path rows) (lookup (wild false path) rows) here
+    let here : row_number (lookup path rows) ≡ Some n = rw (p.0, sym same) at row in
+    ap row_number (first-finds path false rows have) ∙ by (lookup path rows) (lookup (wild false path) rows) here
   where
-    by : (x y : Option (RouteOf ℕ)) → number_in x ≡ Some n → number_in (or_else x y) ≡ Some n
+    by : (x y : Option (RouteOf ℕ)) → row_number x ≡ Some n → row_number (or_else x y) ≡ Some n
     by None y e = absurd (cc e)
     by (Some r) y e = e
-found-first rows path own n have (inr p) asks row =
+finds-first rows path own n have (inr p) asks row =
     let front = p.0 ++ 47 ∷ [] in
     let rest = drop (length front) path in
     let some : is_some (id_behind front path) ≡ true = mapped Some (id_behind front path) (rw p.1 at asks) in
@@ -174,19 +174,19 @@ found-first rows path own n have (inr p) asks row =
     let whole : path ≡ front ++ rest = sym (take-append-drop (length front) path) ∙ ap (λ (x : List ℕ). x ++ rest) (sym begins) in
     let digits = id-digits rest parts.1 in
     let finds = number-first rows front rest have (starts_behind-slash false p.0) digits.0 digits.1 in
-    ap (λ (x : List ℕ). number_in (first rows x)) whole ∙ ap number_in finds ∙ rw p.1 at row
+    ap (λ (x : List ℕ). row_number (first rows x)) whole ∙ ap row_number finds ∙ rw p.1 at row
 
 -- a route that a path asks for is the one that the router finds
-pub asked-first : (routes : List Route) (rows : RowsOf (RouteOf ℕ)) (path : List ℕ) (n : ℕ) (r : Route) → HasRows routes rows → AreRoutes routes → slice_get routes n ≡ Some r → answers path r ≡ true
-    → number_in (first rows path) ≡ Some n
-asked-first routes rows path n r has are at asks =
-    found-first rows path r.path n has.patterns (shape_of r.path (are.each n r at).path) asks (has.each n r at)
+pub requested-first : (routes : List Route) (rows : RowsOf (RouteOf ℕ)) (path : List ℕ) (n : ℕ) (r : Route) → HasRows routes rows → AreRoutes routes → slice_get routes n ≡ Some r → answers path r ≡ true
+    → row_number (first rows path) ≡ Some n
+requested-first routes rows path n r has are at asks =
+    finds-first rows path r.path n has.patterns (shape_of r.path (are.each n r at).path) asks (has.each n r at)
 
 nowhere : Route
 nowhere = record { path = []; template = []; subject = subject.Nothing; params = [] }
 
-none-asked : (routes : List Route) (path : List ℕ) (n : ℕ) (r : Route) → position (answers path) routes ≡ None → slice_get routes n ≡ Some r → answers path r ≡ false
-none-asked routes path n r none at =
+none-requested : (routes : List Route) (path : List ℕ) (n : ℕ) (r : Route) → position (answers path) routes ≡ None → slice_get routes n ≡ Some r → answers path r ≡ false
+none-requested routes path n r none at =
     let within = slice_get_within routes n r at in
     let past : length routes ≤ position_or_len (answers path) routes = by (nat_lt (position_or_len (answers path) routes) (length routes)) refl none in
     let fails : answers path (get_or routes n nowhere) ≡ false = fails_before_first (answers path) routes n nowhere (omega arith) in
@@ -201,9 +201,9 @@ pub only-found : (routes : List Route) (path : List ℕ) (o : Option ℕ) → Is
 unfolding route_of
 only-found routes path o only = by (position (answers path) routes) refl o refl
   where
-    unasked : (n : ℕ) (x : Option Route) → slice_get routes n ≡ x → position (answers path) routes ≡ None → option_and_then (λ (r : Route). found_as n (asked r.path path)) x ≡ None
-    unasked n None e none = refl
-    unasked n (Some r) e none = last (asked r.path path) (none-asked routes path n r none e)
+    unrequested : (n : ℕ) (x : Option Route) → slice_get routes n ≡ x → position (answers path) routes ≡ None → option_and_then (λ (r : Route). found_as n (requested r.path path)) x ≡ None
+    unrequested n None e none = refl
+    unrequested n (Some r) e none = last (requested r.path path) (none-requested routes path n r none e)
       where
         last : (id : Option (Option ℕ)) → is_some id ≡ false → found_as n id ≡ None
         last None f = refl
@@ -215,20 +215,20 @@ only-found routes path o only = by (position (answers path) routes) refl o refl
         let here = only i (get_or routes i nowhere) (slice_get-get_or routes i nowhere got.0) got.1 in
         ap (found_at routes path) (sym is ∙ here)
     by None e None is = refl
-    by None e (Some n) is = unasked n (slice_get routes n) refl e
+    by None e (Some n) is = unrequested n (slice_get routes n) refl e
 
 -- and there is no other
-pub only-one : (routes : List Route) (path : List ℕ) (o : Option ℕ) → IsTheOnly routes path o → IsTheOnly routes path (number_of (route_of routes path))
-only-one routes path o only = λ n r at asks. by n r at asks (asked r.path path) refl
+pub only-one : (routes : List Route) (path : List ℕ) (o : Option ℕ) → IsTheOnly routes path o → IsTheOnly routes path (found_number (route_of routes path))
+only-one routes path o only = λ n r at asks. by n r at asks (requested r.path path) refl
   where
-    by : (n : ℕ) (r : Route) → slice_get routes n ≡ Some r → answers path r ≡ true → (id : Option (Option ℕ)) → asked r.path path ≡ id → number_of (route_of routes path) ≡ Some n
+    by : (n : ℕ) (r : Route) → slice_get routes n ≡ Some r → answers path r ≡ true → (id : Option (Option ℕ)) → requested r.path path ≡ id → found_number (route_of routes path) ≡ Some n
     by n r at asks None e = let no : false ≡ true = rw e at asks in absurd (cc no)
     by n r at asks (Some id) e =
         let found : found_at routes path o ≡ Some (record { route = n; id = id }) = rw (only n r at asks, at, e) refl in
-        ap number_of (sym (only-found routes path o only) ∙ found)
+        ap found_number (sym (only-found routes path o only) ∙ found)
 
 -- an id is named exactly where the route's path has one
-id-stands : (own path : List ℕ) (id : Option ℕ) → asked own path ≡ Some id → is_some id ≡ names_id own
+id-stands : (own path : List ℕ) (id : Option ℕ) → requested own path ≡ Some id → is_some id ≡ names_id own
 id-stands own path id asks = by (before_id own) refl
   where
     by : (front : Option (List ℕ)) → before_id own ≡ front → is_some id ≡ is_some front
@@ -247,5 +247,5 @@ id-stands own path id asks = by (before_id own) refl
         none true f = let is : None ≡ id = cc in rw (sym is) refl
         none false f = absurd (cc f)
 
-pub found-in : (routes : List Route) (path : List ℕ) (n : ℕ) (own : Route) (id : Option ℕ) → AreRoutes routes → slice_get routes n ≡ Some own → asked own.path path ≡ Some id → IsFoundIn routes (record { route = n; id = id })
+pub found-in : (routes : List Route) (path : List ℕ) (n : ℕ) (own : Route) (id : Option ℕ) → AreRoutes routes → slice_get routes n ≡ Some own → requested own.path path ≡ Some id → IsFoundIn routes (record { route = n; id = id })
 found-in routes path n own id are at asks = (own, at, id-stands own.path path id asks ∙ (are.each n own at).id)

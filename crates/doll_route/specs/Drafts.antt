@@ -41,8 +41,8 @@ names_from at earlier (item d ds) = do
   name ← ok_or (name_in d) (BadForm at)
   names_from at (earlier ++ name ∷ []) ds
 
-abbrev pub params_of : ℕ → Data → Result (List (List ℕ)) RouteFault
-params_of at d = do
+abbrev pub names_at : ℕ → Data → Result (List (List ℕ)) RouteFault
+names_at at d = do
   items ← ok_or (list_or_empty (codes "params") d) (BadForm at)
   names_from at [] items
 
@@ -53,7 +53,7 @@ draft_of at d = do
   path ← ok_or (text_at (codes "path") d) (BadForm at)
   template ← ok_or (virtual_path_at (codes "template") d) (BadForm at)
   about ← ok_or (named_at d) (BadForm at)
-  params ← params_of at d
+  params ← names_at at d
   Ok (record { path = path; template = template; named = about; params = params })
 
 -- whether a record is named

@@ -49,12 +49,12 @@ id_behind front path = if starts_with nat_eq path front then id_of (drop (length
 
 -- The id, where there is one, with which a path asks for a route with the path `own`; nothing where it doesn't ask for it. The literal
 -- segments are equal, and the segment for `:id` is an id.
-abbrev pub asked_behind : Option (List ℕ) → List ℕ → List ℕ → Option (Option ℕ)
-asked_behind (Some front) own path = option_map Some (id_behind front path)
-asked_behind None own path = if bytes_eq path own then Some None else None
+abbrev pub requested_behind : Option (List ℕ) → List ℕ → List ℕ → Option (Option ℕ)
+requested_behind (Some front) own path = option_map Some (id_behind front path)
+requested_behind None own path = if bytes_eq path own then Some None else None
 
-abbrev pub asked : List ℕ → List ℕ → Option (Option ℕ)
-asked own path = asked_behind (before_id own) own path
+abbrev pub requested : List ℕ → List ℕ → Option (Option ℕ)
+requested own path = requested_behind (before_id own) own path
 
 -- the path of a request's target, and its query, which stand before and behind its first question mark
 abbrev pub is_question : ℕ → Bool

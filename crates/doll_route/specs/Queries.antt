@@ -7,17 +7,17 @@ use Rattle.doll_schema.specs.declared.value.Value.TheVariants as variant
 use Rattle.doll_route.specs.declared.route.Route.{Route}
 
 -- the text of a name or a value; what isn't UTF-8 is replaced
-abbrev pub text_of : List ℕ → List ℕ
-text_of bytes = utf8_lossy (decode bytes)
+abbrev pub form_text : List ℕ → List ℕ
+form_text bytes = utf8_lossy (decode bytes)
 
 -- the value of the first pair with this name, else nil
-abbrev pub value_in : List ℕ → List (List ℕ × List ℕ) → Value
-value_in name [] = variant.Nil
-value_in name ((key, value) ∷ pairs) = if bytes_eq (text_of key) name then variant.Text (text_of value) else value_in name pairs
+abbrev pub first_value : List ℕ → List (List ℕ × List ℕ) → Value
+first_value name [] = variant.Nil
+first_value name ((key, value) ∷ pairs) = if bytes_eq (form_text key) name then variant.Text (form_text value) else first_value name pairs
 
 -- the value of a parameter
-abbrev pub value_of : List ℕ → List ℕ → Value
-value_of query name = value_in name (raw_pairs query)
+abbrev pub param_value : List ℕ → List ℕ → Value
+param_value query name = first_value name (raw_pairs query)
 
 -- the names of a route's parameters
 abbrev pub param_names : Option Route → List (List ℕ)
@@ -26,7 +26,7 @@ param_names (Some r) = r.params
 
 -- the values of the parameters of the route with a number
 abbrev pub params_in : List Route → ℕ → List ℕ → List Value
-params_in routes number query = map (value_of query) (param_names (slice_get routes number))
+params_in routes number query = map (param_value query) (param_names (slice_get routes number))
 
 -- a text or nil, as parameters are
 abbrev pub is_param : Value → Bool

@@ -9,7 +9,7 @@ use Rattle.doll_route.specs.declared.route.Found.{Found}
 use Rattle.doll_route.specs.declared.route.Route.{Route}
 use Rattle.doll_route.specs.declared.route.Subject.{Subject}
 use Rattle.doll_route.specs.declared.route.Subject.TheVariants as subject
-use Rattle.doll_route.specs.Paths.{is_path, names_id, asked}
+use Rattle.doll_route.specs.Paths.{is_path, names_id, requested}
 
 -- a route of a record has an id in its path
 abbrev pub takes_id : Subject → Bool
@@ -18,10 +18,10 @@ takes_id (subject.List model) = false
 takes_id subject.Nothing = false
 
 -- the number of the model that a route is about
-abbrev pub model_of : Subject → Option ℕ
-model_of (subject.Record model) = Some model
-model_of (subject.List model) = Some model
-model_of subject.Nothing = None
+abbrev pub subject_model : Subject → Option ℕ
+subject_model (subject.Record model) = Some model
+subject_model (subject.List model) = Some model
+subject_model subject.Nothing = None
 
 -- the variable that a route binds to its record or list: the name of the model, or its plural
 abbrev pub variable_of : ModelList → Subject → Option (List ℕ)
@@ -64,7 +64,7 @@ pub record AreRoutes (routes : List Route) : Type 0 where
 
 -- a route's model is one of the schema's, and none of its parameters is the variable of its record or list
 pub record FitsSchema (schema : ModelList) (r : Route) : Type 0 where
-  pub model : IfSome (model_of r.subject) (λ model. model < length schema.models)
+  pub model : IfSome (subject_model r.subject) (λ model. model < length schema.models)
   pub variables : is_own_among (variable_of schema r.subject) r.params ≡ false
 
 abbrev pub AreRoutesOf : ModelList → List Route → Type 0
@@ -72,7 +72,7 @@ AreRoutesOf schema routes = All (FitsSchema schema) routes
 
 -- a path asks for the route
 abbrev pub answers : List ℕ → Route → Bool
-answers path r = is_some (asked r.path path)
+answers path r = is_some (requested r.path path)
 
 -- the route with a number, where the path asks for it
 abbrev pub found_as : ℕ → Option (Option ℕ) → Option Found
@@ -80,7 +80,7 @@ found_as number id = option_map (λ i. record { route = number; id = i }) id
 
 abbrev pub found_at : List Route → List ℕ → Option ℕ → Option Found
 found_at routes path number =
-    option_and_then (λ n. option_and_then (λ (r : Route). found_as n (asked r.path path)) (slice_get routes n)) number
+    option_and_then (λ n. option_and_then (λ (r : Route). found_as n (requested r.path path)) (slice_get routes n)) number
 
 -- the route that a path asks for, with the id that it names
 unfoldable pub route_of : List Route → List ℕ → Option Found
@@ -96,5 +96,5 @@ abbrev pub IsTheOnly : List Route → List ℕ → Option ℕ → Type 0
 IsTheOnly routes path number = (n : ℕ) (r : Route) → slice_get routes n ≡ Some r → answers path r ≡ true → number ≡ Some n
 
 -- the number of what was found
-abbrev pub number_of : Option Found → Option ℕ
-number_of found = option_map (λ (f : Found). f.route) found
+abbrev pub found_number : Option Found → Option ℕ
+found_number found = option_map (λ (f : Found). f.route) found

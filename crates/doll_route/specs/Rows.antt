@@ -38,13 +38,13 @@ abbrev pub router_text : List ℕ → List ℕ
 router_text path = router_text_by (before_id path) path
 
 -- the number in a row
-abbrev pub number_in : Option (RouteOf ℕ) → Option ℕ
-number_in row = option_map (λ (r : RouteOf ℕ). r.value) row
+abbrev pub row_number : Option (RouteOf ℕ) → Option ℕ
+row_number row = option_map (λ (r : RouteOf ℕ). r.value) row
 
 -- each route has a row with its number, and there are no others
 pub record HasRows (routes : List Route) (rows : RowsOf (RouteOf ℕ)) : Type 0 where
   pub patterns : HavePatterns false rows
-  pub each : (n : ℕ) (r : Route) → slice_get routes n ≡ Some r → number_in (lookup (pattern_of r.path) rows) ≡ Some n
+  pub each : (n : ℕ) (r : Route) → slice_get routes n ≡ Some r → row_number (lookup (pattern_of r.path) rows) ≡ Some n
   pub only : (pattern : List ℕ) → ((n : ℕ) (r : Route) → slice_get routes n ≡ Some r → pattern_of r.path ≢ pattern) → lookup pattern rows ≡ None
 
 -- the rows with one more, of this pattern and with this number

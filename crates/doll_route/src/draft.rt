@@ -6,7 +6,7 @@ ghost use Rattle.serde_json.specs.Find.{as_str};
 ghost use Rattle.serde_json.specs.View.{view};
 ghost use Rattle.doll_text.specs.Gives.{Gives};
 ghost use Rattle.doll_text.specs.Segments.{is_virtual_path};
-ghost use Rattle.doll_route.specs.Drafts.{draft_of, name_in, names_from, names_record, named_at, params_of, virtual_path_at};
+ghost use Rattle.doll_route.specs.Drafts.{draft_of, name_in, names_from, names_record, named_at, names_at, virtual_path_at};
 
 use crate::fault::RouteFault;
 use crate::route::Names;
@@ -60,7 +60,7 @@ pub fn draft_of(alloc: Global, at: u32, json: &Value) -> Result<RouteDraft, Rout
         return Err(RouteFault::BadForm { at });
     };
     let named = named_at(alloc, at, json)?;
-    let params = params_of(alloc, at, json)?;
+    let params = names_at(alloc, at, json)?;
     Ok(RouteDraft {
         path: Text::from_bytes(alloc, path.as_bytes())?,
         template: Name::from_bytes(alloc, template.as_bytes())?,
@@ -106,8 +106,8 @@ fn text_in(alloc: Global, at: u32, json: &Value) -> Result<Text, RouteFault>
 }
 
 /// The names of the parameters, which may be left out.
-fn params_of(alloc: Global, at: u32, json: &Value) -> Result<Names, RouteFault>
-    ensures { Gives RouteFault.Memory (params_of at (view json.now)) result }
+fn names_at(alloc: Global, at: u32, json: &Value) -> Result<Names, RouteFault>
+    ensures { Gives RouteFault.Memory (names_at at (view json.now)) result }
 {
     let Some(items) = list_or_empty(json, "params") else {
         return Err(RouteFault::BadForm { at });

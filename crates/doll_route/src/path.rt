@@ -110,8 +110,8 @@ fn id_behind(front: &[u8], path: &[u8]) -> Option<u32>
 }
 
 /// The id, where there is one, with which a path asks for a route with the path `own`; nothing where it doesn't ask for it.
-pub fn asked(own: &[u8], path: &[u8]) -> Option<Option<u32>>
-    ensures { result ≡ spec.asked own.now path.now }
+pub fn requested(own: &[u8], path: &[u8]) -> Option<Option<u32>>
+    ensures { result ≡ spec.requested own.now path.now }
 {
     match before_id(own) {
         Some(front) => Some(Some(id_behind(front, path)?)),

@@ -1,7 +1,7 @@
 //! The parameters of a query, in the syntax of web forms.
 
 ghost use Rattle.std.specs.Prelude.{◌≡◌, map, IfOk};
-ghost use Rattle.doll_route.specs.Queries.{AreParamsFor, value_of};
+ghost use Rattle.doll_route.specs.Queries.{AreParamsFor, param_value};
 
 use crate::route::Names;
 use doll_schema::{Value, Values};
@@ -11,20 +11,20 @@ use std::alloc::Global;
 
 /// The values of parameters with these names.
 pub fn values_of(alloc: Global, names: &Names, query: &str) -> Result<Values, Memory>
-    ensures exact { IfOk result (λ values. values ≡ map (value_of query.now) names.now) }
+    ensures exact { IfOk result (λ values. values ≡ map (param_value query.now) names.now) }
     ensures fits { IfOk result (AreParamsFor names.now) }
 {
     let names: &[Name] = names.as_slice();
     let mut values = Items::new(alloc);
     for name in names {
-        values.push(value_of(alloc, name.as_bytes(), query)?)?;
+        values.push(param_value(alloc, name.as_bytes(), query)?)?;
     }
     Ok(values)
 }
 
 /// The value of the first pair with a name, else nil.
-fn value_of(alloc: Global, name: &[u8], query: &str) -> Result<Value, Memory>
-    ensures { IfOk result (λ value. value ≡ value_of query.now name.now) }
+fn param_value(alloc: Global, name: &[u8], query: &str) -> Result<Value, Memory>
+    ensures { IfOk result (λ value. value ≡ param_value query.now name.now) }
 {
     for pair in parse(alloc, query.as_bytes()) {
         let (key, value) = pair?;

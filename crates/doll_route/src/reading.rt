@@ -7,7 +7,7 @@ ghost use Rattle.serde_json.specs.View.{view};
 ghost use Rattle.doll_text.specs.Gives.{Gives};
 ghost use Rattle.doll_text.specs.Segments.{is_virtual_path};
 ghost use Rattle.doll_route.specs.Readings.{has_id_of, route_from, route_in, subject_of};
-ghost use Rattle.doll_route.specs.Routes.{FitsSchema, IsRoute, are_distinct, has_path, is_own_among, model_of, variable_of};
+ghost use Rattle.doll_route.specs.Routes.{FitsSchema, IsRoute, are_distinct, has_path, is_own_among, subject_model, variable_of};
 
 use crate::draft::{Named, RouteDraft, draft_of};
 use crate::fault::RouteFault;
@@ -99,7 +99,7 @@ fn has_id_of(named: &Named, path: &[u8]) -> bool
 /// What a route is about, its model looked up.
 fn subject_of(schema: &Schema, named: &Named) -> Option<Subject>
     ensures subject { result ≡ subject_of schema.now named.now }
-    ensures within { IfSome result (λ subject. IfSome (model_of subject)
+    ensures within { IfSome result (λ subject. IfSome (subject_model subject)
         (λ model. model < length schema.now.models)) }
 {
     match named {

@@ -7,11 +7,11 @@ ghost use Rattle.doll_text.specs.Gives.{Gives};
 ghost use Rattle.doll_route.specs.declared.route.Route.{Route};
 ghost use Rattle.doll_route.specs.Queries.{AreParamsFor, param_names, params_in};
 ghost use Rattle.doll_route.specs.Readings.{routes_of};
-ghost use Rattle.doll_route.specs.Routes.{AreRoutes, AreRoutesOf, IsFoundIn, IsRoute, IsTheOnly, has_path, number_of, route_of};
+ghost use Rattle.doll_route.specs.Routes.{AreRoutes, AreRoutesOf, IsFoundIn, IsRoute, IsTheOnly, has_path, found_number, route_of};
 
 use crate::fault::RouteFault;
 use crate::limits::MOST_ROUTES;
-use crate::path::asked;
+use crate::path::requested;
 use crate::query::values_of;
 use crate::reading::route_in;
 use crate::route::{Found, Route};
@@ -110,7 +110,7 @@ impl Routes {
     /// The route that a path asks for. The path is read in its own length, whatever the number of routes, and takes no memory.
     pub fn find(&self, path: &str) -> Result<Option<Found>, Memory>
         ensures exact { result ≡ Ok (route_of self.now path.now) }
-        ensures only { IfOk result (λ found. IsTheOnly self.now path.now (number_of found)) }
+        ensures only { IfOk result (λ found. IsTheOnly self.now path.now (found_number found)) }
         ensures fits { IfOk result (λ found. IfSome found (IsFoundIn self.now)) }
     {
         Ok(self.found(path, self.candidate(path)))
@@ -134,7 +134,7 @@ impl Routes {
     {
         let route = number?;
         let own = self.routes.get(route as usize)?;
-        let id = asked(own.path.as_bytes(), path.as_bytes())?;
+        let id = requested(own.path.as_bytes(), path.as_bytes())?;
         Some(Found { route, id })
     }
 

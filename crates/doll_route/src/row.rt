@@ -11,7 +11,7 @@ use doll_text::Memory;
 use matchit::{InsertError, Router};
 use std::alloc::Global;
 
-/// Adds the row of a route's path with a number. A refusal changes nothing.
+/// Adds the row of a route's path with a number.
 pub fn add_row(
     alloc: Global,
     router: &mut Router<u16>,
