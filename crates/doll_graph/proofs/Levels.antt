@@ -20,9 +20,10 @@ shorter graph n number within none = sym (get_or-map (list_any (has_longer graph
 -- what holds of each that is among the things and begins no longer chain holds of all of these
 each_of : (P : ℕ → Type 0) (graph : Graph) (n : ℕ) → ((d : ℕ) → d < length graph → has_longer graph n d ≡ false → P d) → (ds : List ℕ) → AllByRecursion (λ d. d < length graph) ds → list_any (has_longer graph n) ds ≡ false → AllByRecursion P ds
 each_of P graph n holds [] inside none = tt
-each_of P graph n holds (d ∷ ds) inside none =
-    (holds d inside.0 (left_false (has_longer graph n d) (list_any (has_longer graph n) ds) none)
-    , each_of P graph n holds ds inside.1 (right_false (has_longer graph n d) (list_any (has_longer graph n) ds) none))
+each_of P graph n holds (d ∷ ds) inside none = (
+  holds d inside.0 (left_false (has_longer graph n d) (list_any (has_longer graph n) ds) none),
+  each_of P graph n holds ds inside.1 (right_false (has_longer graph n d) (list_any (has_longer graph n) ds) none),
+)
 
 -- so many levels as the longest chain from a thing has things are enough
 pub deep_enough : {V : Type 0} (Same : V → V → Type 0) (graph : Graph) (nothing : V) (made : ℕ → (ℕ → V) → V) → ((number : ℕ) → AllByRecursion (λ d. d < length graph) (dependencies graph number)) → ((number : ℕ) (f g : ℕ → V) → AllByRecursion (λ d. Same (f d) (g d)) (dependencies graph number) → Same (made number f) (made number g)) → (n number more : ℕ) → number < length graph → has_longer graph n number ≡ false → Same (by_levels nothing made n number) (by_levels nothing made (more + n) number)
@@ -32,8 +33,8 @@ deep_enough Same graph nothing made closed respects (suc n) number more within n
     subst (λ m. Same (by_levels nothing made (suc n) number) (by_levels nothing made m number)) one
     (respects number (by_levels nothing made n) (by_levels nothing made (more + n))
     (each_of (λ d. Same (by_levels nothing made n d) (by_levels nothing made (more + n) d)) graph n
-        (λ d inside short. deep_enough Same graph nothing made closed respects n d more inside short)
-        (dependencies graph number) (closed number) (shorter graph n number within none)))
+    (λ d inside short. deep_enough Same graph nothing made closed respects n d more inside short)
+    (dependencies graph number) (closed number) (shorter graph n number within none)))
   where
     one : suc (more + n) ≡ more + suc n
     one = omega arith
