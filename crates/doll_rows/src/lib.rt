@@ -7,9 +7,13 @@ mod answer;
 #[cfg(test)]
 mod calls;
 #[cfg(test)]
-mod clocks;
-#[cfg(test)]
 mod faults;
+#[cfg(test)]
+mod histories;
+#[cfg(test)]
+mod limits;
+#[cfg(test)]
+mod outside;
 #[cfg(test)]
 mod pages;
 #[cfg(test)]
