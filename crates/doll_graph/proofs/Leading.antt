@@ -1,5 +1,5 @@
 -- What leads to a target and where chains begin, step by step, and once a further step adds none.
-use Rattle.std.proofs.Common.{◌≡◌, ℕ, zero, suc, ◌+◌, ◌-◌, ◌<◌, ◌≤◌, true, List, ◌∷◌, slice_set, refl, ap, sym, subst, ◌∙◌, arith}
+use Rattle.std.proofs.Common.{◌≡◌, ℕ, zero, suc, ◌+◌, ◌-◌, ◌<◌, ◌≤◌, true, List, ◌∷◌, slice_set, ap, sym, subst, ◌∙◌, arith}
 use Rattle.std.specs.Prelude.{Bool, false, not, unwrap_or, length, ◌++◌, []}
 use Rattle.std.specs.List.{find, list_any, prefix_len, range_with_len}
 use Rattle.std.proofs.lemmas.List.{append_assoc, length-map}

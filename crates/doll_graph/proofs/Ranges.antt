@@ -1,5 +1,5 @@
 -- Searches over the numbers from one on.
-use Rattle.std.proofs.Common.{◌≡◌, ℕ, suc, ◌+◌, ◌-◌, ◌<◌, Bool, true, false, cond, not, ◌∷◌, List, Option, Some, refl, ap, sym, ◌∙◌, arith}
+use Rattle.std.proofs.Common.{◌≡◌, ℕ, suc, ◌+◌, ◌-◌, ◌<◌, Bool, true, false, cond, not, ◌∷◌, Some, ap, ◌∙◌, arith}
 use Rattle.std.specs.List.{find, filter, prefix_len, range_with_len}
 
 -- the numbers from n on up to a count, by the first

@@ -1,5 +1,5 @@
 -- Things numbered from 0 that depend on one another, such as templates on their partials (this project's own).
-use Rattle.std.specs.Prelude.{ℕ, zero, suc, Bool, true, false, not, ◌&&◌, ◌<◌, List, [], ◌∷◌, length, map, Option, Some, None, option_map, unwrap_or, slice_set}
+use Rattle.std.specs.Prelude.{ℕ, zero, suc, Bool, true, false, not, ◌&&◌, ◌<◌, List, [], ◌∷◌, length, map, Option, option_map, unwrap_or, slice_set}
 use Rattle.std.specs.List.{list_any, find, filter, prefix_len, range_with_len, slice_index_or, All}
 
 -- of each thing, the numbers of those that it depends on

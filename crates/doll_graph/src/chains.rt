@@ -1,6 +1,6 @@
 //! Chains of things, each a dependency of the one before it.
 
-ghost use Rattle.std.specs.Prelude.{◌≡◌, ◌<◌, ◌&&◌, not, length, map, IfOk};
+ghost use Rattle.std.specs.Prelude.{◌≡◌, ◌<◌, ◌^◌, ◌&&◌, not, length, map, IfOk};
 ghost use Rattle.std.specs.List.{find, list_any, range_with_len};
 ghost use Rattle.doll_graph.specs.Graphs as spec;
 
@@ -60,7 +60,7 @@ pub fn longer_chains(alloc: Global, graph: &[Ids], most: usize) -> Result<Vec<bo
 
 /// The first thing from which a chain of more than `most` things begins.
 pub fn first_longer(alloc: Global, graph: &[Ids], most: usize) -> Result<Option<u32>, Memory>
-    requires count { length graph.now < 4294967296 }
+    requires count { length graph.now < 2 ^ 32 }
     ensures { IfOk result (λ first. first ≡ spec.first_longer graph.now most) }
 {
     let marks = longer_chains(alloc, graph, most)?;
@@ -77,7 +77,7 @@ fn first_marked(count: u32, marks: &[bool]) -> Option<u32>
 /// The things whose longest chain has `most` + 1 things, ascending. Each depends on things of the layers before it alone.
 #[tactic(auto, using(crate::proofs::Layers::ends_past, crate::proofs::Layers::ends_here))]
 pub fn layer(alloc: Global, graph: &[Ids], most: usize) -> Result<Ids, Memory>
-    requires count { length graph.now < 4294967296 }
+    requires count { length graph.now < 2 ^ 32 }
     ensures { IfOk result (λ numbers. numbers ≡ spec.layer graph.now most) }
 {
     let marks = longer_chains(alloc, graph, most)?;

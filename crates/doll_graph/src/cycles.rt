@@ -1,6 +1,6 @@
 //! Things that lead back to themselves.
 
-ghost use Rattle.std.specs.Prelude.{◌≡◌, ◌<◌, true, length, slice_set, IfOk, option_map, unwrap_or};
+ghost use Rattle.std.specs.Prelude.{◌≡◌, ◌<◌, ◌^◌, true, length, slice_set, IfOk, option_map, unwrap_or};
 ghost use Rattle.std.specs.List.{find};
 ghost use Rattle.doll_graph.specs.Graphs as spec;
 
@@ -12,7 +12,7 @@ use std::alloc::Global;
 /// first number; `None` where nothing does.
 #[tactic(auto, using(crate::proofs::Ranges::find_past, crate::proofs::Ranges::find_here))]
 pub fn cycle(alloc: Global, graph: &[Ids]) -> Result<Option<Ids>, Memory>
-    requires count { length graph.now < 4294967296 }
+    requires count { length graph.now < 2 ^ 32 }
     ensures { IfOk result (λ way. way ≡ spec.cycle graph.now) }
 {
     for number in 0..graph.len() as u32 {

@@ -1,5 +1,5 @@
 //! What no clause says of the crates below: that their calls find memory, and that the definitions mean what a reader of
-//! the formats would expect, on pages, faults and histories worked by hand.
+//! the formats would expect, on pages and faults worked by hand.
 #![tactic(auto)]
 
 #[cfg(test)]
@@ -9,12 +9,6 @@ mod calls;
 #[cfg(test)]
 mod faults;
 #[cfg(test)]
-mod histories;
-#[cfg(test)]
 mod limits;
 #[cfg(test)]
-mod outside;
-#[cfg(test)]
 mod pages;
-#[cfg(test)]
-mod shares;

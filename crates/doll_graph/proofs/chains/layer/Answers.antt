@@ -1,4 +1,3 @@
-use Rattle.std.proofs.Common.{◌≡◌, false, true}
 use Rattle.doll_graph.specs.Graphs as spec
 use Rattle.doll_graph.proofs.Layers.{ends_past, ends_here}
 use Rattle.doll_graph.proofs.chains.layer.Goals as goal

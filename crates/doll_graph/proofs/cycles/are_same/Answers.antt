@@ -1,6 +1,4 @@
-use Rattle.std.proofs.Common.{◌≡◌, true}
 use Rattle.std.specs.Cmp.{booleans_Decides}
-use Rattle.std.specs.Bool.{Decides}
 use Rattle.std.proofs.lemmas.Slice.Eq.{slice_eq-Decides}
 use Rattle.doll_graph.proofs.cycles.are_same.Goals as goal
 

@@ -1,4 +1,4 @@
-use Rattle.std.proofs.Common.{◌≡◌, ◌∙◌, ◌≤◌, arith}
+use Rattle.std.proofs.Common.{◌∙◌}
 use Rattle.doll_graph.proofs.Leading.{settled}
 use Rattle.doll_graph.proofs.cycles.leading.Goals as goal
 

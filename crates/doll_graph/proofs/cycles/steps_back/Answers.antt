@@ -1,4 +1,4 @@
-use Rattle.std.proofs.Common.{◌≡◌, ◌∙◌, sym}
+use Rattle.std.proofs.Common.{◌∙◌, sym}
 use Rattle.doll_graph.proofs.Leading.{few_past, few_here, leading_more, long}
 use Rattle.doll_graph.proofs.cycles.steps_back.Goals as goal
 

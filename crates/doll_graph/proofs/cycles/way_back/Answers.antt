@@ -1,4 +1,3 @@
-use Rattle.std.proofs.Common.{◌≡◌}
 use Rattle.doll_graph.specs.Graphs as spec
 use Rattle.doll_graph.proofs.Leading.{way_step}
 use Rattle.doll_graph.proofs.cycles.way_back.Goals as goal

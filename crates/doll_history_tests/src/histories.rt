@@ -3,7 +3,6 @@
 ghost use Rattle.std.specs.Prelude.{◌≡◌, IfOk, IfSome};
 ghost use Rattle.doll_journal.specs.Storable.{AreStorable};
 
-use doll_bundle::json_of;
 use doll_commit::Why;
 use doll_journal::{Changes, JournalFault, changes_of};
 use doll_keep::{KeepFault, Keeper, MemKeeper};
@@ -61,9 +60,9 @@ fn schema(alloc: Global, json: &Json) -> Option<Schema> {
 }
 
 fn site(alloc: Global) -> Option<Schema> {
-    match json_of(alloc, SITE.as_bytes()) {
-        Ok(Some(json)) => schema(alloc, &json),
-        _ => None,
+    match Json::from_slice(alloc, SITE.as_bytes()) {
+        Ok(json) => schema(alloc, &json),
+        Err(_) => None,
     }
 }
 
@@ -81,9 +80,9 @@ fn changes_in(alloc: Global, json: &Json) -> Option<Changes>
 fn changes(alloc: Global, text: &str) -> Option<Changes>
     ensures { IfSome result (λ changes. AreStorable changes) }
 {
-    match json_of(alloc, text.as_bytes()) {
-        Ok(Some(json)) => changes_in(alloc, &json),
-        _ => None,
+    match Json::from_slice(alloc, text.as_bytes()) {
+        Ok(json) => changes_in(alloc, &json),
+        Err(_) => None,
     }
 }
 
