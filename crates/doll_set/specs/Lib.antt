@@ -1,0 +1,7 @@
+pub mod Dependencies
+pub mod Digests
+pub mod Faults
+pub mod Files
+pub mod Order
+pub mod Sets
+pub mod Weights

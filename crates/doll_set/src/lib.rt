@@ -1,0 +1,17 @@
+//! The set of a site's templates: read from files, each with what it depends on and its digest.
+#![tactic(auto)]
+
+mod counting;
+mod dependencies;
+mod digests;
+mod fault;
+mod files;
+mod limits;
+mod set;
+mod template;
+mod weights;
+
+pub use dependencies::{Links, PartialTag};
+pub use fault::SetFault;
+pub use set::TemplateSet;
+pub use template::Template;
