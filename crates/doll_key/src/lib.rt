@@ -1,0 +1,11 @@
+//! The keys of cached fragments: what a key is made of, its text, and the reading of a text.
+#![tactic(auto)]
+
+pub mod components;
+mod escapes;
+pub mod parts;
+pub mod texts;
+
+pub use components::{Component, Components, append_components};
+pub use parts::{KeyParts, key_prefix, key_text};
+pub use texts::{KeyText, Versions};
