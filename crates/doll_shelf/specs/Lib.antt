@@ -1,0 +1,7 @@
+pub mod Batches
+pub mod Calls
+pub mod Entries
+pub mod Fetches
+pub mod Kept
+pub mod Settings
+pub mod Shares
