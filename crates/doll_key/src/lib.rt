@@ -7,5 +7,5 @@ pub mod parts;
 pub mod texts;
 
 pub use components::{Component, Components, append_components};
-pub use parts::{KeyParts, key_prefix, key_text};
+pub use parts::{KeyParts, key_prefix, key_text, one_key};
 pub use texts::{KeyText, Versions};

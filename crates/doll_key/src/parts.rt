@@ -2,6 +2,7 @@
 
 ghost use Rattle.std.specs.Prelude.{◌≡◌, ◌++◌, IfOk};
 ghost use Rattle.doll_key.specs.Keys as spec;
+ghost use Rattle.doll_key.specs.Uniqueness.{OneKey};
 
 use crate::components::{COLON, Components, append_components};
 use crate::texts::KeyText;
@@ -48,3 +49,8 @@ pub fn key_prefix(alloc: Global, path: &[u8], digest: Digest) -> Result<Vec<u8>,
     digest.write_hex(&mut out)?;
     Ok(out)
 }
+
+/// No two keys have the same text: it tells the template, its digest and each component.
+pub fn one_key()
+    ensures { OneKey }
+{}
