@@ -1,0 +1,5 @@
+pub mod Types
+pub mod Findings
+pub mod Reached
+pub mod Faults
+pub mod Sound

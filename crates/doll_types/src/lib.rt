@@ -1,0 +1,16 @@
+//! The types of a template set: the type of each expression that a route's page reaches, and the faults that would make it
+//! print nothing.
+#![tactic(auto)]
+
+mod expressions;
+mod fault;
+mod findings;
+mod operators;
+mod reached;
+mod types;
+
+pub use expressions::type_of;
+pub use fault::{TypeFault, TypeFaults, TypeRefusal};
+pub use findings::Finding;
+pub use reached::Reached;
+pub use types::{TypeKind, Typing, ValueType};
