@@ -49,11 +49,12 @@ is_key expr Integer = is_variable expr
 is_key expr Text = is_variable expr
 is_key expr Boolean = is_variable expr
 
+abbrev pub key_checked : Expr → ValueType → Result ValueType TypeKind
+key_checked expr t = check (is_key expr t) BadKey >> Ok t
+
 -- the type of a part of a key
 abbrev pub key_type : ModelList → Typing → Expr → Result ValueType TypeKind
-key_type schema typing expr = do
-  t ← type_of schema typing expr
-  check (is_key expr t) BadKey >> Ok t
+key_type schema typing expr = type_of schema typing expr >>= key_checked expr
 
 -- ---- what is found at one place
 
@@ -95,6 +96,18 @@ part_found schema typing at (part.Literal text) = []
 abbrev pub local_found : ModelList → Typing → ℕ → Local → List Finding
 local_found schema typing at local = failed at (type_of schema typing local.value)
 
+-- the fault of what is written
+abbrev pub printed_found : ModelList → Typing → ℕ → Expr → List Finding
+printed_found schema typing at expr = failed at (type_of schema typing expr >>= printed_type)
+
+-- a render: the faults of its locals, and where there are none the partial with these
+abbrev pub render_found : ModelList → Typing → ℕ → List ℕ → List Local → List Finding
+render_found schema typing at name locals = flat_map (local_found schema typing at) locals ++ called name (locals_typing schema typing locals)
+
+-- a collection: the partial with its item, or the list's fault
+abbrev pub collection_found : ModelList → Typing → ℕ → List ℕ → Expr → List ℕ → List Finding
+collection_found schema typing at name list item = with_items at (items_type schema typing list) (λ t. Call name ((item, t) ∷ []) ∷ [])
+
 -- ---- trees
 
 -- what is found in a part of a template under a typing
@@ -108,16 +121,14 @@ in_order parts typing = flat_map (λ part. part typing) parts
 -- what is found in a node, by what is found in its parts, in the order of the text
 abbrev pub found_step : ModelList → Node-F Finds Finds → Finds
 found_step schema (Node-F.Text text) typing = []
-found_step schema (Node-F.Write at expr) typing = failed at (type_of schema typing expr >>= printed_type)
-found_step schema (Node-F.Raw at expr) typing = failed at (type_of schema typing expr >>= printed_type)
+found_step schema (Node-F.Write at expr) typing = printed_found schema typing at expr
+found_step schema (Node-F.Raw at expr) typing = printed_found schema typing at expr
 found_step schema (Node-F.If at arms otherwise) typing = in_order arms typing ++ in_order otherwise typing
 found_step schema (Node-F.Each at list name body) typing =
     with_items at (items_type schema typing list) (λ t. in_order body (typing ++ (name, t) ∷ []))
 found_step schema (Node-F.Cache at block key body) typing = flat_map (part_found schema typing at) key ++ in_order body typing
-found_step schema (Node-F.Render at name locals) typing =
-    flat_map (local_found schema typing at) locals ++ called name (locals_typing schema typing locals)
-found_step schema (Node-F.Collection at name list item cached) typing =
-    with_items at (items_type schema typing list) (λ t. Call name ((item, t) ∷ []) ∷ [])
+found_step schema (Node-F.Render at name locals) typing = render_found schema typing at name locals
+found_step schema (Node-F.Collection at name list item cached) typing = collection_found schema typing at name list item
 found_step schema (Node-F.Depends at name) typing = []
 
 -- the fault of a test stands at the tag of its own arm

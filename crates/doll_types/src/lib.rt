@@ -5,8 +5,10 @@
 mod expressions;
 mod fault;
 mod findings;
+mod keys;
 mod operators;
 mod reached;
+mod renders;
 mod types;
 
 pub use expressions::type_of;
