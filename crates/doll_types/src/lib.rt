@@ -6,6 +6,7 @@ mod expressions;
 mod fault;
 mod findings;
 mod keys;
+pub mod laws;
 mod operators;
 mod reached;
 mod renders;
