@@ -1,3 +1,10 @@
 pub mod Nodes
 pub mod Parts
 pub mod Values
+pub mod Tags
+pub mod Depending
+pub mod Typings
+pub mod Growing
+pub mod Expanding
+pub mod Opens
+pub mod Chains

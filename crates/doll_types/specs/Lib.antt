@@ -3,3 +3,4 @@ pub mod Findings
 pub mod Reached
 pub mod Faults
 pub mod Sound
+pub mod Reachings

@@ -172,7 +172,12 @@ pub(crate) fn add_fault(at: u32, kind: TypeKind, found: &mut Items<Finding>) -> 
 }
 
 /// Binds a name to a type, after all other variables.
-fn bind(alloc: Global, name: &Name, of: ValueType, typing: &mut Typing) -> Result<(), Memory>
+pub(crate) fn bind(
+    alloc: Global,
+    name: &Name,
+    of: ValueType,
+    typing: &mut Typing,
+) -> Result<(), Memory>
     ensures { OnOk result (typing.new ≡ typing.old ++ (name.now, of) ∷ []) }
 {
     let name = name.copy(alloc)?;

@@ -1,5 +1,6 @@
 //! What types promise of values: laws that later layers use.
 
+ghost use Rattle.doll_types.specs.Reachings.{CallsAreDependencies};
 ghost use Rattle.doll_types.specs.Sound.{BoundHaveTypes, ItemsHaveTypes, LocalsHaveTypes, PrintedAreSingle, ValuesHaveTypes, WalkedAreLists};
 
 /// In a table that fits the schema, where the variables have their types, the value of a typed expression has its type.
@@ -30,4 +31,9 @@ pub fn walked_are_lists()
 /// What has a type that prints is neither a record nor a list.
 pub fn printed_are_single()
     ensures { PrintedAreSingle }
+{}
+
+/// Each partial that a template renders is one of those that it depends on.
+pub fn calls_are_dependencies()
+    ensures { CallsAreDependencies }
 {}

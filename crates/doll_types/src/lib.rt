@@ -5,11 +5,15 @@
 mod expressions;
 mod fault;
 mod findings;
+mod keyed;
 mod keys;
 pub mod laws;
+mod opening;
 mod operators;
 mod reached;
+mod reaching;
 mod renders;
+mod rounds;
 mod types;
 
 pub use expressions::type_of;

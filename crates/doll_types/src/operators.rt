@@ -101,7 +101,7 @@ fn same_or_none(left: ValueType, right: ValueType) -> Option<ValueType>
     None
 }
 
-fn is_same(left: ValueType, right: ValueType) -> bool
+pub(crate) fn is_same(left: ValueType, right: ValueType) -> bool
     ensures { result ≡ spec.same_type left right }
 {
     match (left, right) {

@@ -1,7 +1,6 @@
 //! Types of values, and typings of variables.
 
-use doll_schema::Kind;
-use doll_text::{Items, Memory, Name};
+use doll_text::{Copied, Items, Memory, Name};
 use std::alloc::Global;
 
 /// What an expression gives. Nil is a value of every type.
@@ -38,4 +37,18 @@ pub enum TypeKind {
     NotList,
     /// A part of a key is neither a variable with a single value nor a path to a record.
     BadKey,
+}
+
+impl Copied for TypeKind {
+    fn copy(&self, alloc: Global) -> Result<TypeKind, Memory> {
+        match self {
+            TypeKind::MissingTemplate => Ok(TypeKind::MissingTemplate),
+            TypeKind::UnknownVariable(name) => Ok(TypeKind::UnknownVariable(name.copy(alloc)?)),
+            TypeKind::UnknownStep(name) => Ok(TypeKind::UnknownStep(name.copy(alloc)?)),
+            TypeKind::Mismatch => Ok(TypeKind::Mismatch),
+            TypeKind::NotPrintable => Ok(TypeKind::NotPrintable),
+            TypeKind::NotList => Ok(TypeKind::NotList),
+            TypeKind::BadKey => Ok(TypeKind::BadKey),
+        }
+    }
 }
