@@ -8,3 +8,5 @@ pub mod Growing
 pub mod Expanding
 pub mod Opens
 pub mod Chains
+pub mod Sorting
+pub mod Answering

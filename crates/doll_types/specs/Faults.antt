@@ -1,11 +1,11 @@
 -- The faults of a set's types, and their order (this project's own).
-use Rattle.std.specs.Prelude.{◌≡◌, ℕ, List, [], ◌∷◌, Result, MatchResult, ⊤}
-use Rattle.std.specs.Cmp.Lexicographic.{slice_cmp}
+use Rattle.std.specs.Prelude.{ℕ, ◌==◌, Bool, List, [], ◌∷◌}
+use Rattle.std.specs.Cmp.Lexicographic.{pointwise, slice_cmp}
 use Rattle.std.specs.declared.cmp.Ordering.{Ordering}
 use Rattle.std.specs.List.{Contains, flat_map}
 use Rattle.std.specs.List.Sorted.{IsStrictlySortedBy}
 use Rattle.std.specs.Option.{option_map_or}
-use Rattle.std.specs.Ordering.{nat_cmp, on, then_cmp}
+use Rattle.std.specs.Ordering.{eq_of_both, nat_cmp, on, then_cmp}
 use Rattle.doll_schema.specs.Models.{ModelList}
 use Rattle.doll_route.specs.declared.route.Route.{Route}
 use Rattle.doll_set.specs.Dependencies.{names_of, number_of}
@@ -69,11 +69,24 @@ kind_name (kind.UnknownStep name) = name
 kind_name other = []
 
 -- faults go by template, place and kind, of one kind by the name that it carries
-unfoldable pub fault_order : TypeFault → TypeFault → Ordering
+abbrev pub fault_order : TypeFault → TypeFault → Ordering
 fault_order =
     then_cmp (on (λ (f : TypeFault). f.template) (slice_cmp nat_cmp))
     (then_cmp (on (λ (f : TypeFault). f.at) nat_cmp)
     (then_cmp (on (λ (f : TypeFault). kind_place f.kind) nat_cmp) (on (λ (f : TypeFault). kind_name f.kind) (slice_cmp nat_cmp))))
+
+-- the same fault
+abbrev pub same_fault : TypeFault → TypeFault → Bool
+same_fault =
+    eq_of_both (on (λ (f : TypeFault). f.template) (pointwise ◌==◌))
+    (eq_of_both (on (λ (f : TypeFault). f.at) ◌==◌)
+    (eq_of_both (on (λ (f : TypeFault). kind_place f.kind) ◌==◌) (on (λ (f : TypeFault). kind_name f.kind) (pointwise ◌==◌))))
+
+-- the same faults, each once, in their order
+pub record AreInOrder (faults once : List TypeFault) : Type 0 where
+  pub ascend : IsStrictlySortedBy fault_order once
+  pub kept : (fault : TypeFault) → Contains faults fault → Contains once fault
+  pub only : (fault : TypeFault) → Contains once fault → Contains faults fault
 
 -- These are exactly the faults of a set, each once, in their order.
 pub record AreTypeFaults (set : ReadSet) (schema : ModelList) (routes : List Route) (faults : List TypeFault) : Type 0 where

@@ -4,3 +4,5 @@ pub mod Reached
 pub mod Faults
 pub mod Sound
 pub mod Reachings
+pub mod Ties
+pub mod Sets

@@ -14,10 +14,12 @@ mod reached;
 mod reaching;
 mod renders;
 mod rounds;
+mod typed;
 mod types;
 
 pub use expressions::type_of;
 pub use fault::{TypeFault, TypeFaults, TypeRefusal};
 pub use findings::Finding;
 pub use reached::Reached;
+pub use typed::{Typed, type_set};
 pub use types::{TypeKind, Typing, ValueType};

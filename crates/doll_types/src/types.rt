@@ -1,5 +1,8 @@
 //! Types of values, and typings of variables.
 
+ghost use Rattle.std.specs.Prelude.{◌≡◌};
+ghost use Rattle.doll_types.specs.Faults.{kind_name, kind_place};
+
 use doll_text::{Copied, Items, Memory, Name};
 use std::alloc::Global;
 
@@ -37,6 +40,33 @@ pub enum TypeKind {
     NotList,
     /// A part of a key is neither a variable with a single value nor a path to a record.
     BadKey,
+}
+
+impl TypeKind {
+    /// The place of the kind among the kinds.
+    pub(crate) fn place(&self) -> u8
+        ensures { result ≡ kind_place self.now }
+    {
+        match self {
+            TypeKind::MissingTemplate => 0,
+            TypeKind::UnknownVariable(_) => 1,
+            TypeKind::UnknownStep(_) => 2,
+            TypeKind::Mismatch => 3,
+            TypeKind::NotPrintable => 4,
+            TypeKind::NotList => 5,
+            TypeKind::BadKey => 6,
+        }
+    }
+
+    /// The name that the kind carries, nothing where it carries none.
+    pub fn name(&self) -> &[u8]
+        ensures { result.now ≡ kind_name self.now }
+    {
+        match self {
+            TypeKind::UnknownVariable(name) | TypeKind::UnknownStep(name) => name.as_bytes(),
+            _ => &[],
+        }
+    }
 }
 
 impl Copied for TypeKind {
