@@ -1,5 +1,5 @@
 -- What is answered once all that pages reach is there.
-use Rattle.std.proofs.Common.{◌≡◌, ℕ, zero, suc, ◌<◌, ◌≤◌, List, [], ◌∷◌, length, refl, sym, subst, arith}
+use Rattle.std.proofs.Common.{◌≡◌, ◌≤◌, List, [], length, subst, arith}
 use Rattle.std.specs.List.{Contains}
 use Rattle.doll_route.specs.declared.route.Route.{Route}
 use Rattle.doll_schema.specs.Models.{ModelList}

@@ -1,14 +1,13 @@
 -- The partials that a template of a set renders are among those that it depends on.
-use Rattle.std.proofs.Common.{◌≡◌, ℕ, zero, suc, ◌+◌, ◌<◌, ◌≤◌, ◌==◌, Bool, true, false, cond, ◌||◌, List, [], ◌∷◌, ◌++◌, length, map, Option, Some, None, Result, Ok, Err, ◌⊎◌, inl, inr, nat_lt, refl, ap, sym, subst, ◌∙◌, ⊎_elim, arith}
+use Rattle.std.proofs.Common.{◌≡◌, ℕ, zero, suc, ◌<◌, ◌==◌, Bool, true, false, cond, ◌||◌, List, [], ◌∷◌, length, Option, Some, None, Result, Ok, Err, nat_lt, refl, ap, sym, subst, ◌∙◌, ⊎_elim, arith}
 use Rattle.std.specs.Prelude.{slice_get, position, ⊤}
-use Rattle.std.specs.List.{AllByRecursion, Contains, filter, flat_map, list_any, position_or_len, range_with_len, slice_index_or}
+use Rattle.std.specs.List.{AllByRecursion, Contains, flat_map, list_any, position_or_len}
 use Rattle.std.specs.Option.{ok_or, option_map_or}
 use Rattle.std.proofs.lemmas.Bool.{ltb-true}
 use Rattle.std.proofs.lemmas.Bool.Decides.{nat_tests}
 use Rattle.std.proofs.lemmas.List.Elements.{Contains-append_cases}
 use Rattle.doll_text.specs.Steps.{◌>>=◌, ◌>>◌}
 use Rattle.doll_graph.specs.Graphs.{dependencies}
-use Rattle.doll_schema.specs.Models.{ModelList}
 use Rattle.doll_set.specs.declared.dependencies.Links.{Links}
 use Rattle.doll_set.specs.declared.dependencies.PartialTag.{PartialTag}
 use Rattle.doll_set.specs.declared.fault.SetFault.{SetFault}
@@ -16,16 +15,15 @@ use Rattle.doll_set.specs.declared.fault.SetFault.TheVariants.{MissingPartial}
 use Rattle.doll_set.specs.declared.template.Template.{Template}
 use Rattle.doll_set.specs.Dependencies.{all_links, distinct, each_made, graph_of, links_of, named_by, names_of, number_named, partial_of, rendered, tags_of}
 use Rattle.doll_set.specs.Digests.{name_at}
-use Rattle.doll_set.specs.Sets.{IsSet, ReadSet, fit, linked}
+use Rattle.doll_set.specs.Sets.{fit, linked}
 use Rattle.doll_set.proofs.Layered.{each_passing}
 use Rattle.doll_types.specs.declared.findings.Finding.{Finding}
 use Rattle.doll_types.specs.declared.findings.Finding.TheVariants.{Fault, Call}
 use Rattle.doll_types.specs.declared.reached.Reached.{Reached}
 use Rattle.doll_types.specs.Findings.{findings}
-use Rattle.doll_types.specs.Reached.{called_at, called_by, findings_at}
+use Rattle.doll_types.specs.Reached.{called_at, called_by}
 use Rattle.doll_types.specs.Reachings.{CallsAreDependencies}
-use Rattle.doll_types.specs.Types.{Typing}
-use Rattle.doll_types.proofs.Tags.{AreNamedBy, IsNamedBy, tree_named}
+use Rattle.doll_types.proofs.Tags.{IsNamedBy, tree_named}
 
 -- ---- lists
 

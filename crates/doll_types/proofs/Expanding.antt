@@ -1,8 +1,8 @@
 -- What is reached stays so as its calls are numbered, and in the end all that is reached is there.
-use Rattle.std.proofs.Common.{◌≡◌, ℕ, zero, suc, ◌+◌, ◌<◌, ◌≤◌, Bool, true, false, true≢false, List, [], ◌∷◌, ◌++◌, length, length-append, map, Option, Some, None, Result, Ok, Err, ◌⊎◌, inl, inr, refl, ap, sym, subst, ◌∙◌, ⊎_elim, arith}
-use Rattle.std.specs.Prelude.{slice_get, ⊤}
-use Rattle.std.specs.List.{AllByRecursion, Contains, flat_map, range_with_len}
-use Rattle.std.proofs.lemmas.List.{get_or-map, length-map}
+use Rattle.std.proofs.Common.{◌≡◌, ℕ, zero, suc, ◌+◌, ◌<◌, ◌≤◌, true, false, true≢false, List, [], ◌∷◌, ◌++◌, length, length-append, map, Some, ◌⊎◌, inl, inr, refl, ap, sym, subst, ◌∙◌, ⊎_elim, arith}
+use Rattle.std.specs.Prelude.{slice_get}
+use Rattle.std.specs.List.{AllByRecursion, Contains}
+use Rattle.std.proofs.lemmas.List.{get_or-map}
 use Rattle.std.proofs.lemmas.List.Elements.{Contains-append_left, Contains-append_right, Contains-append_cases}
 use Rattle.doll_graph.specs.Graphs.{Graph, dependencies, has_longer}
 use Rattle.doll_route.specs.declared.route.Route.{Route}
@@ -12,8 +12,8 @@ use Rattle.doll_set.proofs.Layered.{shorter}
 use Rattle.doll_types.specs.declared.fault.TypeFault.{TypeFault}
 use Rattle.doll_types.specs.declared.reached.Reached.{Reached}
 use Rattle.doll_types.specs.declared.reaching.Reach.{Reach}
-use Rattle.doll_types.specs.Faults.{IsTypeFault, faults_of, missing}
-use Rattle.doll_types.specs.Reached.{IsReached, called_by, opened}
+use Rattle.doll_types.specs.Faults.{IsTypeFault, faults_of}
+use Rattle.doll_types.specs.Reached.{IsReached, called_by}
 use Rattle.doll_types.specs.Reachings.{AreNumbersOf, AreShortFrom, AreTemplates, Grows, IsExpanded, IsReaching}
 use Rattle.doll_types.proofs.Depending.{calls_depend, get_among, get_of}
 use Rattle.doll_types.proofs.Growing.{numbers_stay}

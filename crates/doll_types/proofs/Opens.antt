@@ -1,21 +1,20 @@
 -- What routes open, one after another.
-use Rattle.std.proofs.Common.{◌≡◌, ℕ, zero, suc, ◌+◌, ◌<◌, ◌≤◌, List, [], ◌∷◌, ◌++◌, length, take, get_or, Some, None, Option, ◌⊎◌, refl, ap, sym, subst, ◌∙◌, ⊎_elim, arith}
+use Rattle.std.proofs.Common.{◌≡◌, ℕ, zero, suc, ◌+◌, ◌<◌, ◌≤◌, List, [], ◌∷◌, ◌++◌, length, take, get_or, Some, None, ap, sym, subst, ◌∙◌, ⊎_elim, arith}
 use Rattle.std.specs.Prelude.{slice_get}
 use Rattle.std.specs.List.{Contains, flat_map}
 use Rattle.std.specs.Option.{option_map_or}
 use Rattle.std.proofs.lemmas.List.{append-nil, flat_map_more, take_more, take_all}
-use Rattle.std.proofs.lemmas.List.Elements.{Contains-append_left, Contains-append_right, Contains-append_cases}
+use Rattle.std.proofs.lemmas.List.Elements.{Contains-append_left, Contains-append_cases}
 use Rattle.doll_route.specs.declared.route.Route.{Route}
 use Rattle.doll_schema.specs.Models.{ModelList}
 use Rattle.doll_set.specs.Dependencies.{names_of, number_of}
-use Rattle.doll_set.specs.Sets.{IsSet, ReadSet}
-use Rattle.doll_types.specs.declared.fault.TypeFault.{TypeFault}
+use Rattle.doll_set.specs.Sets.{ReadSet}
 use Rattle.doll_types.specs.declared.reached.Reached.{Reached}
 use Rattle.doll_types.specs.declared.reaching.Reach.{Reach}
 use Rattle.doll_types.specs.declared.types.TypeKind.TheVariants.{MissingTemplate}
-use Rattle.doll_types.specs.Faults.{IsTypeFault, faults_of, missing, missing_of}
-use Rattle.doll_types.specs.Reached.{IsReached, called_by, opened, opened_by, route_typing}
-use Rattle.doll_types.specs.Reachings.{AreNumbersOf, AreOpened, Grows, IsExpanded, IsOpened, IsReaching}
+use Rattle.doll_types.specs.Faults.{IsTypeFault, missing_of}
+use Rattle.doll_types.specs.Reached.{IsReached, opened, opened_by, route_typing}
+use Rattle.doll_types.specs.Reachings.{AreOpened, Grows, IsOpened, IsReaching}
 use Rattle.doll_types.specs.Types.{Typing}
 use Rattle.doll_types.proofs.Depending.{get_among}
 use Rattle.doll_types.proofs.Growing.{grow_on, stays}

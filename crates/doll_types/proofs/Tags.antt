@@ -1,14 +1,13 @@
 -- Each partial that a template renders is named by one of its tags.
-use Rattle.std.proofs.Common.{◌≡◌, ℕ, true, List, [], ◌∷◌, ◌++◌, map, Result, Ok, Err, refl, ap, sym, subst, ◌∙◌, arith}
+use Rattle.std.proofs.Common.{◌≡◌, ℕ, true, List, [], ◌∷◌, ◌++◌, map, Result, Ok, Err, refl, sym, subst, arith}
 use Rattle.std.specs.List.{AllByRecursion, Contains, flat_map}
 use Rattle.std.proofs.lemmas.List.Elements.{Contains-append_left, Contains-append_right}
 use Rattle.doll_text.specs.Steps.{◌>>=◌}
-use Rattle.doll_expr.specs.declared.expr.Expr.{Expr}
 use Rattle.doll_erb.specs.declared.node.Arm.{Arm, Arm-F, fold-Arm, map-Arm, roll-Arm}
 use Rattle.doll_erb.specs.declared.node.KeyPart.{KeyPart}
 use Rattle.doll_erb.specs.declared.node.KeyPart.TheVariants as part
 use Rattle.doll_erb.specs.declared.node.Local.{Local}
-use Rattle.doll_erb.specs.declared.node.Node.{Node, fold-Node, roll-Node}
+use Rattle.doll_erb.specs.declared.node.Node.{Node, roll-Node}
 use Rattle.doll_erb.specs.declared.node.Node.TheFolds.{fold-roll-Node, fold_out-Arm, ind-Node, map-Node}
 use Rattle.doll_erb.specs.declared.node.Node.TheOpen.{Node-F}
 use Rattle.doll_schema.specs.Models.{ModelList}

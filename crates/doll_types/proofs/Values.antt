@@ -1,5 +1,5 @@
 -- The value of a typed expression has its type.
-use Rattle.std.proofs.Common.{◌≡◌, ℕ, ◌==◌, Bool, true, false, not, cond, List, [], ◌∷◌, ◌++◌, reverse, find, bytes_eq, map, Option, Some, None, IsSome, IsTrue, Result, Ok, Err, ◌⊎◌, inl, inr, ℤ, pos, neg_ℤ, ◌+ℤ◌, ◌-ℤ◌, ◌*ℤ◌, refl, ap, sym, subst, ◌∙◌, arith}
+use Rattle.std.proofs.Common.{◌≡◌, ℕ, ◌==◌, Bool, true, false, not, cond, List, [], ◌∷◌, ◌++◌, reverse, find, bytes_eq, Option, Some, None, IsTrue, Result, Ok, Err, ◌⊎◌, inl, inr, ℤ, pos, neg_ℤ, ◌+ℤ◌, ◌-ℤ◌, ◌*ℤ◌, refl, ap, sym, subst, ◌∙◌, arith}
 use Rattle.std.specs.Prelude.{slice_get, option_and_then, option_map}
 use Rattle.std.specs.Option.{ok_or, option_map_or}
 use Rattle.std.proofs.lemmas.Bool.Decides.{nat_tests}
@@ -33,15 +33,15 @@ use Rattle.doll_eval.specs.declared.member.Member.{Member}
 use Rattle.doll_eval.specs.declared.member.Member.TheVariants as member
 use Rattle.doll_eval.specs.Members.{member_of}
 use Rattle.doll_eval.specs.Operations.{added, asked, has_64_bits, is_settled, is_true, multiplied, negated, nil, operated, size_of, subtracted, truth, whole}
-use Rattle.doll_eval.specs.Values.{Meaning, Outcome, binary, meaning_of, meaning_step, member_value, record_step, step, value_of, variable}
+use Rattle.doll_eval.specs.Values.{Meaning, Outcome, binary, meaning_of, meaning_step, member_value, record_step, step, value_of}
 use Rattle.doll_eval.proofs.Livings.{children_live}
 use Rattle.doll_types.specs.declared.types.ValueType.{ValueType}
 use Rattle.doll_types.specs.declared.types.ValueType.TheVariants.{Integer, Text, Boolean, Record, List as ListOf, Nil}
 use Rattle.doll_types.specs.declared.types.TypeKind.{TypeKind}
 use Rattle.doll_types.specs.declared.types.TypeKind.TheVariants.{Mismatch, UnknownStep, UnknownVariable}
-use Rattle.doll_types.specs.Findings.{local_type, locals_typing}
+use Rattle.doll_types.specs.Findings.{locals_typing}
 use Rattle.doll_types.specs.Sound.{BoundHaveTypes, HasType, HaveTypes, LocalsHaveTypes, ValueHasType, ValuesHaveTypes, locals_values}
-use Rattle.doll_types.specs.Types.{Typing, binary_type, checked, common_type, is_number, is_ordered, kind_type, member_type, negated_type, ordered_type, part_type, query_type, same_or_none, sides_type, step_type, type_of, type_step, variable_type}
+use Rattle.doll_types.specs.Types.{Typing, binary_type, checked, common_type, is_number, is_ordered, kind_type, member_type, negated_type, ordered_type, part_type, query_type, sides_type, step_type, type_of, type_step, variable_type}
 
 -- ---- results
 

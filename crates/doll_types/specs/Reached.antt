@@ -14,7 +14,6 @@ use Rattle.doll_set.specs.Sets.{ReadSet}
 use Rattle.doll_types.specs.declared.findings.Finding.{Finding}
 use Rattle.doll_types.specs.declared.findings.Finding.TheVariants.{Fault, Call}
 use Rattle.doll_types.specs.declared.reached.Reached.{Reached}
-use Rattle.doll_types.specs.declared.types.ValueType.{ValueType}
 use Rattle.doll_types.specs.declared.types.ValueType.TheVariants.{Text, Record, List as ListOf}
 use Rattle.doll_types.specs.Findings.{findings}
 use Rattle.doll_types.specs.Types.{Typing}

@@ -1,5 +1,5 @@
 -- What types promise of values (this project's own).
-use Rattle.std.specs.Prelude.{◌≡◌, ℕ, ◌++◌, ◌∷◌, [], List, map, All, IsSome, Option, Some, Result, Ok, true, false, ⊤}
+use Rattle.std.specs.Prelude.{◌≡◌, ℕ, ◌++◌, ◌∷◌, [], List, map, All, IsSome, Some, Ok, true, ⊤}
 use Rattle.doll_expr.specs.declared.expr.Expr.{Expr}
 use Rattle.doll_erb.specs.declared.node.Local.{Local}
 use Rattle.doll_schema.specs.declared.value.Value.{Value}
@@ -11,7 +11,7 @@ use Rattle.doll_table.specs.Fits.{Fits}
 use Rattle.doll_table.specs.Tables.{TableMap, row_of}
 use Rattle.doll_eval.specs.Values.{value_of, variable}
 use Rattle.doll_types.specs.declared.types.ValueType.{ValueType}
-use Rattle.doll_types.specs.declared.types.ValueType.TheVariants.{Integer, Text, Boolean, Record, List as ListOf, Nil}
+use Rattle.doll_types.specs.declared.types.ValueType.TheVariants.{Integer, Text, Boolean, Record, List as ListOf}
 use Rattle.doll_types.specs.Findings.{locals_typing}
 use Rattle.doll_types.specs.Types.{Typing, is_printable, item_type, type_of, variable_type}
 

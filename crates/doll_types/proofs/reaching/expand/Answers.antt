@@ -1,8 +1,7 @@
-use Rattle.std.proofs.Common.{◌≡◌, ◌++◌, ◌∷◌, [], Some, ap, sym, subst, ◌∙◌}
+use Rattle.std.proofs.Common.{◌≡◌, ◌++◌, ◌∷◌, [], Some, ap, subst, ◌∙◌}
 use Rattle.std.specs.Prelude.{slice_get}
 use Rattle.std.specs.List.{flat_map}
 use Rattle.doll_set.specs.Digests.{name_at}
-use Rattle.doll_types.specs.declared.reached.Reached.{Reached}
 use Rattle.doll_types.specs.declared.reaching.Reach.{Reach}
 use Rattle.doll_types.specs.Faults.{fault_at}
 use Rattle.doll_types.specs.Reachings.{IsExpanded}

@@ -1,4 +1,4 @@
-use Rattle.std.proofs.Common.{◌≡◌, ◌<◌, ◌≤◌, ℕ, List, length, arith}
+use Rattle.std.proofs.Common.{◌<◌, length, arith}
 use Rattle.doll_types.proofs.Chains.{called_there}
 use Rattle.doll_types.specs.Reached.{called_by}
 use Rattle.doll_types.proofs.Expanding.{element_at, longer, longer_by_one, reaching_on, round_ends, round_on}

@@ -1,4 +1,4 @@
-use Rattle.std.proofs.Common.{◌≡◌, true, false, true≢false, [], refl, sym, subst, ◌∙◌}
+use Rattle.std.proofs.Common.{◌≡◌, true≢false, refl, sym, subst, ◌∙◌}
 use Rattle.doll_types.specs.Reachings.{IsReaching}
 use Rattle.doll_types.specs.Sets.{IsTypedSet}
 use Rattle.doll_types.proofs.Answering.{no_faults, refused, typed_set}
