@@ -11,13 +11,14 @@ use Rattle.doll_eval.specs.Values.{value_of}
 use Rattle.doll_erb.specs.declared.node.Node.{Node}
 use Rattle.doll_erb.specs.declared.node.Node as node
 use Rattle.doll_erb.specs.declared.node.Node.TheFolds.{fold-roll-Node, fold_out-Arm}
-use Rattle.doll_erb.specs.declared.node.Node.TheVariants.{rolls-If, rolls-Each, rolls-Cache, rolls-Collection}
+use Rattle.doll_erb.specs.declared.node.Node.TheVariants.{rolls-If, rolls-Each, rolls-Cache, rolls-Render, rolls-Collection}
 use Rattle.doll_erb.specs.declared.node.Node.TheOpen.{Node-F}
 use Rattle.doll_erb.specs.declared.node.Arm.{Arm, fold-Arm}
 use Rattle.doll_text.specs.declared.memory.Memory.{Memory}
 use Rattle.doll_schema.specs.declared.model.Schema.{Schema}
 use Rattle.doll_table.specs.Tables.{TableMap}
-use Rattle.doll_plain.specs.Direct.{plain_scene, Scene, Variables, Writes, Choice, written, direct, chosen, value_in, in_order, items_of, node_step, arm_step}
+use Rattle.doll_erb.specs.declared.node.Local.{Local}
+use Rattle.doll_plain.specs.Direct.{Scene, Variables, Writes, Choice, written, direct, chosen, value_in, in_order, items_of, node_step, arm_step, each_writes, collection_writes, locals_in}
 
 -- an arm as a choice
 abbrev pub choice : Scene → Arm → Choice
@@ -27,9 +28,9 @@ choice scene arm = record { holds = λ variables. is_true (value_in scene arm.te
 unfoldable pub choosing : Scene → List Arm → List Node → Writes
 choosing scene arms otherwise variables = chosen (map (choice scene) arms) (map (written scene) otherwise) variables
 
--- what a body writes for each of these records under a name
-unfoldable pub repeated : Scene → ℕ → List ℕ → List ℕ → List Node → Writes
-repeated scene model ids name body variables = flat_map (λ id. direct scene body (variables ++ (name, val.Record model id) ∷ [])) ids
+-- what is written for each of these records
+unfoldable pub for_records : (Val → List ℕ) → ℕ → List ℕ → List ℕ
+for_records writes model ids = flat_map (λ id. writes (val.Record model id)) ids
 
 -- what a node writes, by one step
 by_step : (scene : Scene) (layer : Node-F Node Arm) (whole : Node) (variables : Variables) → node.roll-Node layer ≡ whole → written scene whole variables ≡ written scene (node.roll-Node layer) variables
@@ -71,63 +72,90 @@ choosing_last scene arms otherwise variables at past =
     ap (λ left. chosen (map (choice scene) left) (map (written scene) otherwise) variables) (drop_all at arms past)
     ∙ parts_direct scene otherwise variables
 
-pub if_writes : (scene : Scene) (at : ℕ) (arms : List Arm) (otherwise : List Node) (variables : Variables) → written scene (node.If at arms otherwise) variables ≡ choosing scene arms otherwise variables
+pub written_if : (scene : Scene) (at : ℕ) (arms : List Arm) (otherwise : List Node) (variables : Variables) → written scene (node.If at arms otherwise) variables ≡ choosing scene arms otherwise variables
 unfolding choosing
-if_writes scene at arms otherwise variables =
+written_if scene at arms otherwise variables =
     by_step scene (Node-F.If at arms otherwise) (node.If at arms otherwise) variables (rolls-If at arms otherwise)
     ∙ ap (λ (f : Writes). f variables) (fold-roll-Node Writes Choice (node_step scene) (arm_step scene) (Node-F.If at arms otherwise))
     ∙ ap (λ cs. chosen cs (map (written scene) otherwise) variables) (choices scene arms)
 
-pub cache_writes : (scene : Scene) (at block : ℕ) (key : _) (body : List Node) (variables : Variables) → written scene (node.Cache at block key body) variables ≡ direct scene body variables
-cache_writes scene at block key body variables =
+pub written_cache : (scene : Scene) (at block : ℕ) (key : _) (body : List Node) (variables : Variables) → written scene (node.Cache at block key body) variables ≡ direct scene body variables
+written_cache scene at block key body variables =
     by_step scene (Node-F.Cache at block key body) (node.Cache at block key body) variables (rolls-Cache at block key body)
     ∙ ap (λ (f : Writes). f variables) (fold-roll-Node Writes Choice (node_step scene) (arm_step scene) (Node-F.Cache at block key body))
     ∙ parts_direct scene body variables
 
-pub each_writes : (scene : Scene) (at model : ℕ) (ids : List ℕ) (list : Expr) (name : List ℕ) (body : List Node) (variables : Variables) → map (λ id. val.Record model id) ids ≡ items_of (value_in scene list variables) → written scene (node.Each at list name body) variables ≡ repeated scene model ids name body variables
-unfolding repeated
-each_writes scene at model ids list name body variables items =
+pub written_each : (scene : Scene) (at : ℕ) (list : Expr) (name : List ℕ) (body : List Node) (variables : Variables) → written scene (node.Each at list name body) variables ≡ each_writes scene list name body variables
+unfolding each_writes
+written_each scene at list name body variables =
     by_step scene (Node-F.Each at list name body) (node.Each at list name body) variables (rolls-Each at list name body)
     ∙ ap (λ (f : Writes). f variables) (fold-roll-Node Writes Choice (node_step scene) (arm_step scene) (Node-F.Each at list name body))
-    ∙ ap (flat_map (λ item. in_order (map (written scene) body) (variables ++ (name, item) ∷ []))) (sym items)
-    ∙ flat_map-map (λ (item : Val). in_order (map (written scene) body) (variables ++ (name, item) ∷ [])) (λ id. val.Record model id) ids
-    ∙ bodies ids
+    ∙ bodies (items_of (value_in scene list variables))
   where
-    bodies : (ids : List ℕ) → flat_map (λ id. in_order (map (written scene) body) (variables ++ (name, val.Record model id) ∷ [])) ids ≡ flat_map (λ id. direct scene body (variables ++ (name, val.Record model id) ∷ [])) ids
+    bodies : (items : List Val) → flat_map (λ item. in_order (map (written scene) body) (variables ++ (name, item) ∷ [])) items ≡ flat_map (λ item. direct scene body (variables ++ (name, item) ∷ [])) items
     bodies [] = refl
-    bodies (id ∷ ids) = ap (λ w. w ++ flat_map (λ id. in_order (map (written scene) body) (variables ++ (name, val.Record model id) ∷ [])) ids) (parts_direct scene body (variables ++ (name, val.Record model id) ∷ [])) ∙ ap (λ w. direct scene body (variables ++ (name, val.Record model id) ∷ []) ++ w) (bodies ids)
+    bodies (item ∷ items) = ap (λ w. w ++ flat_map (λ item. in_order (map (written scene) body) (variables ++ (name, item) ∷ [])) items) (parts_direct scene body (variables ++ (name, item) ∷ [])) ∙ ap (λ w. direct scene body (variables ++ (name, item) ∷ []) ++ w) (bodies items)
 
-pub repeated_none : (scene : Scene) (model : ℕ) (name : List ℕ) (body : List Node) (variables : Variables) → repeated scene model [] name body variables ≡ []
-unfolding repeated
-repeated_none scene model name body variables = refl
-
--- one record more
-pub repeated_more : (scene : Scene) (model : ℕ) (ids : List ℕ) (name : List ℕ) (body : List Node) (variables : Variables) (before : List ℕ) (at : ℕ) → at < length ids → before ++ repeated scene model (take (at + 1) ids) name body variables ≡ (before ++ repeated scene model (take at ids) name body variables) ++ direct scene body (variables ++ (name, val.Record model (get_or ids at 0)) ∷ [])
-unfolding repeated
-repeated_more scene model ids name body variables before at within =
-    let f : ℕ → List ℕ = λ id. direct scene body (variables ++ (name, val.Record model id) ∷ []) in
-    ap (λ done. before ++ flat_map f done) (take_more ids at 0 within) ∙ sym (flat_map_more f before (take at ids) (get_or ids at 0))
-
--- a partial that writes nothing writes nothing for a list
-pub collection_writes : (scene : Scene) (at : ℕ) (name : List ℕ) (list : Expr) (item : List ℕ) (cached : Bool) (variables : Variables) → ((name : List ℕ) (variables : Variables) → scene.partial name variables ≡ []) → written scene (node.Collection at name list item cached) variables ≡ []
-collection_writes scene at name list item cached variables nothing =
+pub written_collection : (scene : Scene) (at : ℕ) (name : List ℕ) (list : Expr) (item : List ℕ) (cached : Bool) (variables : Variables) → written scene (node.Collection at name list item cached) variables ≡ collection_writes scene name list item variables
+unfolding collection_writes
+written_collection scene at name list item cached variables =
     by_step scene (Node-F.Collection at name list item cached) (node.Collection at name list item cached) variables (rolls-Collection at name list item cached)
     ∙ ap (λ (f : Writes). f variables) (fold-roll-Node Writes Choice (node_step scene) (arm_step scene) (Node-F.Collection at name list item cached))
-    ∙ none (items_of (value_in scene list variables))
+
+pub written_partial : (scene : Scene) (at : ℕ) (name : List ℕ) (locals : List Local) (variables : Variables) → written scene (node.Render at name locals) variables ≡ scene.partial name (locals_in scene locals variables)
+written_partial scene at name locals variables =
+    by_step scene (Node-F.Render at name locals) (node.Render at name locals) variables (rolls-Render at name locals)
+    ∙ ap (λ (f : Writes). f variables) (fold-roll-Node Writes Choice (node_step scene) (arm_step scene) (Node-F.Render at name locals))
+
+-- ---- items
+
+records_write : (writes : Val → List ℕ) (model : ℕ) (ids : List ℕ) (items : List Val) → map (λ id. val.Record model id) ids ≡ items → flat_map writes items ≡ for_records writes model ids
+unfolding for_records
+records_write writes model ids items are = ap (flat_map writes) (sym are) ∙ flat_map-map writes (λ id. val.Record model id) ids
+
+-- a body for each record of a list
+pub each_record : (scene : Scene) (list : Expr) (name : List ℕ) (body : List Node) (variables : Variables) (model : ℕ) (ids : List ℕ) → map (λ id. val.Record model id) ids ≡ items_of (value_in scene list variables) → each_writes scene list name body variables ≡ for_records (λ item. direct scene body (variables ++ (name, item) ∷ [])) model ids
+unfolding each_writes
+each_record scene list name body variables model ids are =
+    records_write (λ item. direct scene body (variables ++ (name, item) ∷ [])) model ids (items_of (value_in scene list variables)) are
+
+-- a partial for each record of a list
+pub collection_record : (scene : Scene) (name : List ℕ) (list : Expr) (item : List ℕ) (variables : Variables) (model : ℕ) (ids : List ℕ) → map (λ id. val.Record model id) ids ≡ items_of (value_in scene list variables) → collection_writes scene name list item variables ≡ for_records (λ one. scene.partial name ((item, one) ∷ [])) model ids
+unfolding collection_writes
+collection_record scene name list item variables model ids are =
+    records_write (λ one. scene.partial name ((item, one) ∷ [])) model ids (items_of (value_in scene list variables)) are
+
+-- a partial that writes nothing writes nothing for a list
+pub collection_none : (scene : Scene) (name : List ℕ) (list : Expr) (item : List ℕ) (variables : Variables) → ((variables : Variables) → scene.partial name variables ≡ []) → collection_writes scene name list item variables ≡ []
+unfolding collection_writes
+collection_none scene name list item variables nothing = none (items_of (value_in scene list variables))
   where
     none : (ones : List Val) → flat_map (λ one. scene.partial name ((item, one) ∷ [])) ones ≡ []
     none [] = refl
-    none (one ∷ ones) = ap (λ w. w ++ flat_map (λ one. scene.partial name ((item, one) ∷ [])) ones) (nothing name ((item, one) ∷ [])) ∙ none ones
+    none (one ∷ ones) = ap (λ w. w ++ flat_map (λ one. scene.partial name ((item, one) ∷ [])) ones) (nothing ((item, one) ∷ [])) ∙ none ones
+
+pub no_records : (writes : Val → List ℕ) (model : ℕ) → for_records writes model [] ≡ []
+unfolding for_records
+no_records writes model = refl
+
+-- one record more
+pub record_more : (writes : Val → List ℕ) (model : ℕ) (ids before : List ℕ) (at : ℕ) → at < length ids → before ++ for_records writes model (take (at + 1) ids) ≡ (before ++ for_records writes model (take at ids)) ++ writes (val.Record model (get_or ids at 0))
+unfolding for_records
+record_more writes model ids before at within =
+    let f : ℕ → List ℕ = λ id. writes (val.Record model id) in
+    ap (λ done. before ++ flat_map f done) (take_more ids at 0 within) ∙ sym (flat_map_more f before (take at ids) (get_or ids at 0))
+
+-- ---- in an equal table
 
 -- a test's answer in an equal table, under equal variables
-pub tested_along : (held answer : Bool) (test : Expr) (schema : Schema) {t u : TableMap} {vars same : Variables} → t ≡ u → vars ≡ same → held ≡ answer → held ≡ is_true (value_of test vars schema t) → answer ≡ is_true (value_in (plain_scene schema u) test same)
+pub tested_along : (held answer : Bool) (test : Expr) (schema : Schema) {t u : TableMap} {vars same : Variables} → t ≡ u → vars ≡ same → held ≡ answer → held ≡ is_true (value_of test vars schema t) → answer ≡ is_true (value_of test same schema u)
 tested_along held answer test schema {t = t} {same = same} tables variables_are is h =
     sym is ∙ h ∙ ap (λ v. is_true (value_of test v schema t)) variables_are ∙ ap (λ w. is_true (value_of test same schema w)) tables
 
--- the same in an equal table, under equal variables, after equal bytes
-pub moved : (r : Result (Unit {0}) Memory) (now : List ℕ) (schema : Schema) {t u : TableMap} {vars same : Variables} {nodes others : List Node} {before first : List ℕ} → t ≡ u → vars ≡ same → nodes ≡ others → before ≡ first → OnOk r (now ≡ before ++ direct (plain_scene schema t) nodes vars) → OnOk r (now ≡ first ++ direct (plain_scene schema u) others same)
-moved r now schema {u = u} {vars = vars} {same = same} {nodes = nodes} {others = others} {before = before} tables variables_are trees starts h =
-    subst (λ b. OnOk r (now ≡ b ++ direct (plain_scene schema u) others same)) starts
-    (subst (λ n. OnOk r (now ≡ before ++ direct (plain_scene schema u) n same)) trees
-    (subst (λ v. OnOk r (now ≡ before ++ direct (plain_scene schema u) nodes v)) variables_are
-    (subst (λ w. OnOk r (now ≡ before ++ direct (plain_scene schema w) nodes vars)) tables h)))
+-- what is written in an equal table, under equal variables, after equal bytes
+pub moved : (r : Result (Unit {0}) Memory) (now : List ℕ) (scene : TableMap → Scene) {t u : TableMap} {vars same : Variables} {nodes others : List Node} {before first : List ℕ} → t ≡ u → vars ≡ same → nodes ≡ others → before ≡ first → OnOk r (now ≡ before ++ direct (scene t) nodes vars) → OnOk r (now ≡ first ++ direct (scene u) others same)
+moved r now scene {u = u} {vars = vars} {same = same} {nodes = nodes} {others = others} {before = before} tables variables_are trees starts h =
+    subst (λ b. OnOk r (now ≡ b ++ direct (scene u) others same)) starts
+    (subst (λ n. OnOk r (now ≡ before ++ direct (scene u) n same)) trees
+    (subst (λ v. OnOk r (now ≡ before ++ direct (scene u) nodes v)) variables_are
+    (subst (λ w. OnOk r (now ≡ before ++ direct (scene w) nodes vars)) tables h)))

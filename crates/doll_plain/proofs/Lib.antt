@@ -1,4 +1,5 @@
-pub mod Alone
-pub mod Parts
 pub mod Choices
 pub mod Depths
+pub mod Lives
+pub mod Parts
+pub mod Templates

@@ -74,6 +74,16 @@ written scene = fold-Node Writes Choice (node_step scene) (arm_step scene)
 abbrev pub direct : Scene → List Node → Writes
 direct scene tree variables = flat_map (λ node. written scene node variables) tree
 
--- what a template is rendered over where no partials are read yet: they write nothing
-abbrev pub plain_scene : Schema → TableMap → Scene
-plain_scene schema table = record { schema = schema; table = table; partial = λ name variables. [] }
+-- ---- parts of nodes
+
+-- what a body writes for each item of a list, with the item under a name
+unfoldable pub each_writes : Scene → Expr → List ℕ → List Node → Writes
+each_writes scene list name body variables = flat_map (λ item. direct scene body (variables ++ (name, item) ∷ [])) (items_of (value_in scene list variables))
+
+-- what a partial writes for each item of a list, with the item alone
+unfoldable pub collection_writes : Scene → List ℕ → Expr → List ℕ → Writes
+collection_writes scene name list item variables = flat_map (λ one. scene.partial name ((item, one) ∷ [])) (items_of (value_in scene list variables))
+
+-- the variables that a partial is rendered with
+abbrev pub locals_in : Scene → List Local → Variables → Variables
+locals_in scene locals variables = map (λ (l : Local). (l.name, value_in scene l.value variables)) locals

@@ -1,2 +1,3 @@
 pub mod Direct
-pub mod Standing
+pub mod Pages
+pub mod Variables

@@ -4,12 +4,14 @@ ghost use Rattle.std.specs.Prelude.{◌≡◌, ◌++◌, ◌∷◌, ◌-◌, [],
 ghost use Rattle.doll_table.specs.Tables.{row_of};
 ghost use Rattle.doll_table.specs.Fits.{Fits};
 ghost use Rattle.doll_eval.specs.Living.{IsLiving, AreLiving};
+ghost use Rattle.doll_erb.specs.declared.node.Local.{Local};
 ghost use Rattle.doll_eval.specs.Operations;
 ghost use Rattle.doll_eval.specs.Values.{value_of};
 ghost use Rattle.doll_plain.specs.Direct.{items_of};
 
+use doll_erb::Local;
 use doll_eval::{eval, is_true};
-use doll_expr::{Copied, Expr, Ids, Memory, Name};
+use doll_expr::{Copied, Expr, Ids, Items, Memory, Name};
 use doll_schema::{Schema, Val, Vars};
 use doll_table::Rows;
 use std::alloc::Global;
@@ -68,6 +70,38 @@ pub fn bind(alloc: Global, name: &Name, model: u16, id: u32, vars: &mut Vars) ->
     let name = name.copy(alloc)?;
     vars.push((name, Val::Record { model, id }))?;
     Ok(())
+}
+
+/// A record under a name, alone.
+pub fn one_var(alloc: Global, name: &Name, model: u16, id: u32) -> Result<Vars, Memory>
+    ensures { IfOk result (λ own. own ≡ (name.now, Val.Record model id) ∷ []) }
+{
+    let mut own: Vars = Items::new(alloc);
+    bind(alloc, name, model, id, &mut own)?;
+    Ok(own)
+}
+
+/// The variables of a partial, each with the value of its expression.
+pub fn locals_of<R: Rows>(
+    alloc: Global,
+    locals: &[Local],
+    vars: &Vars,
+    schema: &Schema,
+    rows: &mut R,
+) -> Result<Vars, Memory>
+    requires fits { Fits schema.now (R.table rows.old) }
+    requires living { AreLiving (R.table rows.old) vars.now }
+    ensures value { IfOk result (λ own. own ≡ map
+        (λ (l : Local). (l.name, value_of l.value vars.now schema.now (R.table rows.old))) locals.now) }
+    ensures living { IfOk result (AreLiving (R.table rows.old)) }
+    ensures table { R.table rows.new ≡ R.table rows.old }
+{
+    let mut own: Vars = Items::new(alloc);
+    for local in locals {
+        let value = eval(alloc, &local.value, vars, schema, rows)?;
+        own.push((local.name.copy(alloc)?, value))?;
+    }
+    Ok(own)
 }
 
 /// Takes the last variable away.

@@ -1,9 +1,9 @@
-//! Direct rendering of templates, with no cache.
+//! Direct rendering of pages, with no cache.
 #![tactic(auto)]
 
 mod binding;
+mod page;
 mod render;
-mod standing;
+mod variables;
 
-pub use render::page;
-pub use standing::tree_alone;
+pub use page::plain_page;

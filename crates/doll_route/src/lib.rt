@@ -13,5 +13,6 @@ mod row;
 
 pub use fault::RouteFault;
 pub use path::split_target;
+pub use reading::variable_of;
 pub use route::{Found, Names, Route, Subject};
 pub use routes::Routes;

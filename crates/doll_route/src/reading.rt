@@ -133,7 +133,7 @@ fn has_variable(schema: &Schema, subject: Subject, params: &[Name]) -> bool
 }
 
 /// The variable of a route's record or list.
-fn variable_of(schema: &Schema, subject: Subject) -> Option<&[u8]>
+pub fn variable_of(schema: &Schema, subject: Subject) -> Option<&[u8]>
     ensures { option_map (λ own. own.now) result ≡ variable_of schema.now subject }
 {
     match subject {

@@ -13,5 +13,6 @@ mod weights;
 
 pub use dependencies::{Links, PartialTag};
 pub use fault::SetFault;
+pub use limits::LONGEST_CHAIN;
 pub use set::TemplateSet;
 pub use template::Template;

@@ -115,6 +115,24 @@ impl TemplateSet {
         let path = partial_path(alloc, template, name)?;
         Ok(number_of(&self.names, path.as_slice()))
     }
+
+    /// The number of the partial that the template with a number means by a name in the tag at this place.
+    pub fn partial_at(
+        &self,
+        alloc: Global,
+        number: usize,
+        at: u32,
+        name: &[u8],
+    ) -> Result<Option<usize>, Memory>
+        ensures { IfOk result (λ partial. partial
+            ≡ partial_of (names_of self.now.templates) (name_at self.now.templates number) name.now) }
+    {
+        let _ = at;
+        match self.templates.as_slice().get(number) {
+            Some(template) => self.partial_of(alloc, template.name.as_bytes(), name),
+            None => self.partial_of(alloc, &[], name),
+        }
+    }
 }
 
 /// The templates of files, ascending by their names.
