@@ -159,3 +159,16 @@ moved r now scene {u = u} {vars = vars} {same = same} {nodes = nodes} {others = 
     (subst (λ n. OnOk r (now ≡ before ++ direct (scene u) n same)) trees
     (subst (λ v. OnOk r (now ≡ before ++ direct (scene u) nodes v)) variables_are
     (subst (λ w. OnOk r (now ≡ before ++ direct (scene w) nodes vars)) tables h)))
+
+-- one node more
+pub node_more : (scene : TableMap → Scene) (nodes : List Node) (at : ℕ) (one : Node) (first : List ℕ) {t u : TableMap} {vars same : Variables} {before : List ℕ} → t ≡ u → vars ≡ same → at < length nodes → one ≡ get_or nodes at one → before ≡ first ++ direct (scene u) (take at nodes) same → before ++ written (scene t) one vars ≡ first ++ direct (scene u) (take (at + 1) nodes) same
+node_more scene nodes at one first {t = t} {u = u} {same = same} {before = before} tables variables_are within is so_far =
+    ap (λ v. before ++ written (scene t) one v) variables_are
+    ∙ ap (λ w. before ++ written (scene w) one same) tables
+    ∙ ap (λ b. b ++ written (scene u) one same) so_far
+    ∙ ap (λ node. (first ++ flat_map writes (take at nodes)) ++ writes node) is
+    ∙ flat_map_more writes first (take at nodes) (get_or nodes at one)
+    ∙ sym (ap (λ done. first ++ flat_map writes done) (take_more nodes at one within))
+  where
+    writes : Node → List ℕ
+    writes node = written (scene u) node same

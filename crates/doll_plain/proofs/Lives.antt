@@ -1,9 +1,10 @@
 -- The variables that a route binds name only living records.
-use Rattle.std.proofs.Common.{◌≡◌, ℕ, zero, suc, ◌<◌, ◌∙◌, Bool, ◌||◌, true, false, get_or, length, List, [], ◌∷◌, ◌++◌, Option, None, Some, All, IsSome, sym, arith, refl, subst}
+use Rattle.std.proofs.Common.{◌≡◌, ℕ, zero, suc, ◌<◌, ◌∙◌, Bool, ◌||◌, true, false, get_or, length, List, [], ◌∷◌, ◌++◌, Option, None, Some, All, IsSome, sym, arith, ◌⊎◌, inl, inr, ap, refl, subst}
 use Rattle.std.specs.FinMap as finite
 use Rattle.std.specs.List.{list_any, zip}
 use Rattle.std.specs.Ordering.{nat_cmp, eq_by_cmp}
 use Rattle.std.proofs.lemmas.Bool.Decides.{nat_tests}
+use Rattle.std.proofs.lemmas.List.{append-nil}
 use Rattle.std.proofs.lemmas.List.Elements.{All-map, All-append, All-cons}
 use Rattle.doll_schema.specs.Models.{ModelList}
 use Rattle.doll_schema.specs.declared.value.Val.{Val}
@@ -36,8 +37,8 @@ ids_live table model k d within = finite.contains_key-keys (rows_in table model)
 
 -- a variable whose value lives
 with_lives : (table : TableMap) (name : Option (List ℕ)) (value : Option Val) → ((v : Val) → value ≡ Some v → IsLiving table v) → AreLiving table (variable_with name value)
-with_lives table None value lives k d h = absurd (omega arith)
-with_lives table (Some name) None lives k d h = absurd (omega arith)
+with_lives table None value lives = λ k d h. absurd (omega arith)
+with_lives table (Some name) None lives = λ k d h. absurd (omega arith)
 with_lives table (Some name) (Some value) lives = All-cons (λ (b : List ℕ × Val). IsLiving table b.1) (name, value) [] (lives value refl) (λ k d h. absurd (omega arith))
 
 subject_lives : (table : TableMap) (about : Subject) (id : Option ℕ) → is_there table about id ≡ true → (v : Val) → subject_value table about id ≡ Some v → IsLiving table v
@@ -51,3 +52,15 @@ route_lives schema route id params table there =
     All-append (λ (b : List ℕ × Val). IsLiving table b.1) (variable_with (variable_of schema route.subject) (subject_value table route.subject id)) (parameters route.params params)
     (with_lives table (variable_of schema route.subject) (subject_value table route.subject id) (subject_lives table route.subject id there))
     (All-map (λ (b : List ℕ × Val). IsLiving table b.1) (λ (one : List ℕ × Value). (one.0, val.Plain one.1)) (zip route.params params) (λ k d h. tt))
+
+-- the parameters beside which one of the two lists has ended
+no_values : (names : List (List ℕ)) → parameters names [] ≡ []
+no_values [] = refl
+no_values (name ∷ names) = refl
+
+pub all_bound : (vars whole : Variables) (names : List (List ℕ)) (values : List Value) → (names ≡ []) ⊎ (values ≡ []) → vars ++ parameters names values ≡ whole → vars ≡ whole
+all_bound vars whole names values ended so_far = sym (ap (λ more. vars ++ more) (nothing ended) ∙ append-nil vars) ∙ so_far
+  where
+    nothing : (names ≡ []) ⊎ (values ≡ []) → parameters names values ≡ []
+    nothing (inl none) = ap (λ ns. parameters ns values) none
+    nothing (inr none) = ap (parameters names) none ∙ no_values names

@@ -128,9 +128,16 @@ impl TemplateSet {
             ≡ partial_of (names_of self.now.templates) (name_at self.now.templates number) name.now) }
     {
         let _ = at;
+        self.partial_of(alloc, self.name_of(number), name)
+    }
+
+    /// The name of the template with a number, nothing where there is none.
+    fn name_of(&self, number: usize) -> &[u8]
+        ensures { result.now ≡ name_at self.now.templates number }
+    {
         match self.templates.as_slice().get(number) {
-            Some(template) => self.partial_of(alloc, template.name.as_bytes(), name),
-            None => self.partial_of(alloc, &[], name),
+            Some(template) => template.name.as_bytes(),
+            None => &[],
         }
     }
 }
