@@ -1,5 +1,5 @@
 -- What a template of a set writes, by its tree and its partials.
-use Rattle.std.proofs.Common.{◌≡◌, ℕ, zero, suc, ◌+◌, ◌*◌, ◌-◌, ◌<◌, ◌≤◌, ◌≢◌, List, [], length, Option, None, Some, get_or, true, false, refl, ap, sym, subst, ◌∙◌, arith}
+use Rattle.std.proofs.Common.{◌≡◌, ℕ, zero, suc, ◌-◌, ◌≢◌, List, [], length, None, Some, get_or, true, false, refl, ap, sym, subst, ◌∙◌, arith}
 use Rattle.std.specs.Prelude.{nat_lt, slice_get}
 use Rattle.std.proofs.lemmas.Bool.{ltb-false, ltb-true}
 use Rattle.std.proofs.lemmas.Option.{slice_get_past, slice_get_read}
@@ -11,7 +11,7 @@ use Rattle.doll_set.specs.Dependencies.{names_of, partial_of}
 use Rattle.doll_set.specs.Digests.{name_at}
 use Rattle.doll_set.specs.declared.template.Template.{Template}
 use Rattle.doll_plain.specs.Direct.{Scene, Variables, Writes, direct}
-use Rattle.doll_plain.specs.Pages.{levels_write, partial_writes, scene_in, tree_at}
+use Rattle.doll_plain.specs.Pages.{levels_write, partial_writes, scene_in}
 
 module _ (schema : ModelList) (table : TableMap) (templates : List Template) where
   -- what a template is rendered over by so many levels

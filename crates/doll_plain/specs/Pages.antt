@@ -1,5 +1,5 @@
 -- Direct rendering of the templates of a set and of the page of a route (this project's own).
-use Rattle.std.specs.Prelude.{ℕ, List, [], Option, None, Some, option_and_then, option_map, slice_get, if◌then◌else◌}
+use Rattle.std.specs.Prelude.{ℕ, List, [], Option, None, Some, option_and_then, slice_get, if◌then◌else◌}
 use Rattle.std.specs.Option.{option_map_or}
 use Rattle.doll_schema.specs.Models.{ModelList}
 use Rattle.doll_schema.specs.declared.value.Value.{Value}
@@ -14,7 +14,7 @@ use Rattle.doll_set.specs.declared.template.Template.{Template}
 use Rattle.doll_route.specs.declared.route.Found.{Found}
 use Rattle.doll_route.specs.declared.route.Route.{Route}
 use Rattle.doll_plain.specs.declared.render.Context.{Context}
-use Rattle.doll_plain.specs.Direct.{Scene, Variables, Writes, direct}
+use Rattle.doll_plain.specs.Direct.{Scene, Writes, direct}
 use Rattle.doll_plain.specs.Variables.{is_there, route_variables}
 
 -- the tree of the template with a number, nothing where there is none

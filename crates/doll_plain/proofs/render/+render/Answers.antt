@@ -1,4 +1,4 @@
-use Rattle.std.proofs.Common.{◌≡◌, ℕ, List, ◌<◌, ◌≤◌, ◌+◌, ◌*◌, length, ◌++◌, ◌∷◌, [], ap, sym, subst, refl, ◌∙◌, rules, arith, get_or, take_all, Ok, OnOk, true, false}
+use Rattle.std.proofs.Common.{◌≡◌, ℕ, List, ◌<◌, length, ◌++◌, ◌∷◌, [], ap, sym, subst, refl, ◌∙◌, rules, arith, get_or, take_all, Ok, OnOk, true, false}
 use Rattle.std.proofs.lemmas.List.{append-nil}
 use Rattle.std.specs.Prelude.{IsSome}
 use Rattle.doll_erb.specs.declared.node.Node as node

@@ -1,7 +1,7 @@
 use Rattle.std.proofs.Common.{◌≡◌, ◌+◌, ◌*◌, ◌++◌, ◌∷◌, [], take, drop}
 use Rattle.doll_erb.proofs.node.Node.TheLaws.{the_size}
 use Rattle.doll_plain.specs.Direct.{direct}
-use Rattle.doll_plain.specs.Pages.{levels_write, scene_of}
+use Rattle.doll_plain.specs.Pages.{scene_of}
 use Rattle.doll_plain.proofs.Choices.{choosing, for_records}
 use Rattle.doll_plain.proofs.Depths.{left_of}
 use Rattle.doll_plain.proofs.render.+render.Given as goal
