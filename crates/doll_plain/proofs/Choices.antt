@@ -10,23 +10,15 @@ use Rattle.doll_eval.specs.Operations.{is_true}
 use Rattle.doll_eval.specs.Values.{value_of}
 use Rattle.doll_erb.specs.declared.node.Node.{Node}
 use Rattle.doll_erb.specs.declared.node.Node as node
-use Rattle.doll_erb.specs.declared.node.Node.TheFolds.{fold-roll-Node, fold_out-Arm}
-use Rattle.doll_erb.specs.declared.node.Node.TheVariants.{rolls-If, rolls-Each, rolls-Cache, rolls-Render, rolls-Collection}
+use Rattle.doll_erb.specs.declared.node.Node.TheFolds.{fold-roll-Node, fold_out-Arm, ind-Node, map-Node}
+use Rattle.doll_erb.specs.declared.node.Node.TheVariants.{rolls-If, rolls-Each, rolls-Cache, rolls-Collection, rolls-Depends, rolls-Render}
 use Rattle.doll_erb.specs.declared.node.Node.TheOpen.{Node-F}
 use Rattle.doll_erb.specs.declared.node.Arm.{Arm, fold-Arm}
 use Rattle.doll_text.specs.declared.memory.Memory.{Memory}
 use Rattle.doll_schema.specs.declared.model.Schema.{Schema}
 use Rattle.doll_table.specs.Tables.{TableMap}
 use Rattle.doll_erb.specs.declared.node.Local.{Local}
-use Rattle.doll_plain.specs.Direct.{Scene, Variables, Writes, Choice, written, direct, chosen, value_in, in_order, items_of, node_step, arm_step, each_writes, collection_writes, locals_in}
-
--- an arm as a choice
-abbrev pub choice : Scene → Arm → Choice
-choice scene arm = record { holds = λ variables. is_true (value_in scene arm.test variables); writes = in_order (map (written scene) arm.body) }
-
--- what the first of these arms whose test holds writes, else the last part
-unfoldable pub choosing : Scene → List Arm → List Node → Writes
-choosing scene arms otherwise variables = chosen (map (choice scene) arms) (map (written scene) otherwise) variables
+use Rattle.doll_plain.specs.Direct.{Scene, Variables, Writes, Choice, choice, written, direct, chosen, value_in, in_order, items_of, node_step, arm_step, each_writes, collection_writes, if_writes, locals_in, tag_step, tag_writes}
 
 -- what is written for each of these records
 unfoldable pub for_records : (Val → List ℕ) → ℕ → List ℕ → List ℕ
@@ -49,8 +41,8 @@ pub arm_writes : (scene : Scene) (arm : Arm) (variables : Variables) → (choice
 arm_writes scene arm variables = parts_direct scene arm.body variables
 
 -- the arms from here on
-here : (scene : Scene) (arms : List Arm) (otherwise : List Node) (variables : Variables) (at : ℕ) (arm : Arm) (held : Bool) → at < length arms → arm ≡ get_or arms at arm → held ≡ is_true (value_in scene arm.test variables) → choosing scene (drop at arms) otherwise variables ≡ cond held (direct scene arm.body variables) (choosing scene (drop (at + 1) arms) otherwise variables)
-unfolding choosing
+here : (scene : Scene) (arms : List Arm) (otherwise : List Node) (variables : Variables) (at : ℕ) (arm : Arm) (held : Bool) → at < length arms → arm ≡ get_or arms at arm → held ≡ is_true (value_in scene arm.test variables) → if_writes scene (drop at arms) otherwise variables ≡ cond held (direct scene arm.body variables) (if_writes scene (drop (at + 1) arms) otherwise variables)
+unfolding if_writes
 here scene arms otherwise variables at arm held within is tested =
     ap (λ left. chosen (map (choice scene) left) (map (written scene) otherwise) variables) (drop-cons arms at arm within ∙ ap (λ a. a ∷ drop (suc at) arms) (sym is))
     ∙ ap (λ b. cond b ((choice scene arm).writes variables) (chosen (map (choice scene) (drop (suc at) arms)) (map (written scene) otherwise) variables)) (sym tested)
@@ -60,20 +52,20 @@ here scene arms otherwise variables at arm held within is tested =
     after : suc at ≡ at + 1
     after = omega arith
 
-pub choosing_here : (scene : Scene) (arms : List Arm) (otherwise : List Node) (variables : Variables) (at : ℕ) (arm : Arm) → at < length arms → arm ≡ get_or arms at arm → true ≡ is_true (value_in scene arm.test variables) → choosing scene (drop at arms) otherwise variables ≡ direct scene arm.body variables
+pub choosing_here : (scene : Scene) (arms : List Arm) (otherwise : List Node) (variables : Variables) (at : ℕ) (arm : Arm) → at < length arms → arm ≡ get_or arms at arm → true ≡ is_true (value_in scene arm.test variables) → if_writes scene (drop at arms) otherwise variables ≡ direct scene arm.body variables
 choosing_here scene arms otherwise variables at arm within is tested = here scene arms otherwise variables at arm true within is tested
 
-pub choosing_on : (scene : Scene) (arms : List Arm) (otherwise : List Node) (variables : Variables) (at : ℕ) (arm : Arm) → at < length arms → arm ≡ get_or arms at arm → false ≡ is_true (value_in scene arm.test variables) → choosing scene (drop at arms) otherwise variables ≡ choosing scene (drop (at + 1) arms) otherwise variables
+pub choosing_on : (scene : Scene) (arms : List Arm) (otherwise : List Node) (variables : Variables) (at : ℕ) (arm : Arm) → at < length arms → arm ≡ get_or arms at arm → false ≡ is_true (value_in scene arm.test variables) → if_writes scene (drop at arms) otherwise variables ≡ if_writes scene (drop (at + 1) arms) otherwise variables
 choosing_on scene arms otherwise variables at arm within is tested = here scene arms otherwise variables at arm false within is tested
 
-pub choosing_last : (scene : Scene) (arms : List Arm) (otherwise : List Node) (variables : Variables) (at : ℕ) → length arms ≤ at → choosing scene (drop at arms) otherwise variables ≡ direct scene otherwise variables
-unfolding choosing
+pub choosing_last : (scene : Scene) (arms : List Arm) (otherwise : List Node) (variables : Variables) (at : ℕ) → length arms ≤ at → if_writes scene (drop at arms) otherwise variables ≡ direct scene otherwise variables
+unfolding if_writes
 choosing_last scene arms otherwise variables at past =
     ap (λ left. chosen (map (choice scene) left) (map (written scene) otherwise) variables) (drop_all at arms past)
     ∙ parts_direct scene otherwise variables
 
-pub written_if : (scene : Scene) (at : ℕ) (arms : List Arm) (otherwise : List Node) (variables : Variables) → written scene (node.If at arms otherwise) variables ≡ choosing scene arms otherwise variables
-unfolding choosing
+pub written_if : (scene : Scene) (at : ℕ) (arms : List Arm) (otherwise : List Node) (variables : Variables) → written scene (node.If at arms otherwise) variables ≡ if_writes scene arms otherwise variables
+unfolding if_writes
 written_if scene at arms otherwise variables =
     by_step scene (Node-F.If at arms otherwise) (node.If at arms otherwise) variables (rolls-If at arms otherwise)
     ∙ ap (λ (f : Writes). f variables) (fold-roll-Node Writes Choice (node_step scene) (arm_step scene) (Node-F.If at arms otherwise))
@@ -96,16 +88,62 @@ written_each scene at list name body variables =
     bodies [] = refl
     bodies (item ∷ items) = ap (λ w. w ++ flat_map (λ item. in_order (map (written scene) body) (variables ++ (name, item) ∷ [])) items) (parts_direct scene body (variables ++ (name, item) ∷ [])) ∙ ap (λ w. direct scene body (variables ++ (name, item) ∷ []) ++ w) (bodies items)
 
-pub written_collection : (scene : Scene) (at : ℕ) (name : List ℕ) (list : Expr) (item : List ℕ) (cached : Bool) (variables : Variables) → written scene (node.Collection at name list item cached) variables ≡ collection_writes scene name list item variables
-unfolding collection_writes
-written_collection scene at name list item cached variables =
-    by_step scene (Node-F.Collection at name list item cached) (node.Collection at name list item cached) variables (rolls-Collection at name list item cached)
-    ∙ ap (λ (f : Writes). f variables) (fold-roll-Node Writes Choice (node_step scene) (arm_step scene) (Node-F.Collection at name list item cached))
+pub written_depends : (scene : Scene) (at : ℕ) (name : List ℕ) (variables : Variables) → written scene (node.Depends at name) variables ≡ []
+written_depends scene at name variables =
+    by_step scene (Node-F.Depends at name) (node.Depends at name) variables (rolls-Depends at name)
+    ∙ ap (λ (f : Writes). f variables) (fold-roll-Node Writes Choice (node_step scene) (arm_step scene) (Node-F.Depends at name))
 
-pub written_partial : (scene : Scene) (at : ℕ) (name : List ℕ) (locals : List Local) (variables : Variables) → written scene (node.Render at name locals) variables ≡ scene.partial name (locals_in scene locals variables)
-written_partial scene at name locals variables =
-    by_step scene (Node-F.Render at name locals) (node.Render at name locals) variables (rolls-Render at name locals)
-    ∙ ap (λ (f : Writes). f variables) (fold-roll-Node Writes Choice (node_step scene) (arm_step scene) (Node-F.Render at name locals))
+-- ---- tags that render a partial
+
+module _ (scene : Scene) where
+  abbrev opened : Node-F Node Arm → Node-F Writes Choice
+  opened = map-Node Node Arm Writes Choice (tag_writes scene) (fold-Arm Writes Choice (tag_step scene) (arm_step scene))
+
+  tag_is : (layer : Node-F Node Arm) (whole : Node) (variables : Variables) → node.roll-Node layer ≡ whole → tag_writes scene whole variables ≡ tag_step scene (opened layer) variables
+  unfolding tag_writes
+  tag_is layer whole variables rolls =
+      ap (λ n. tag_writes scene n variables) (sym rolls)
+      ∙ ap (λ (f : Writes). f variables) (fold-roll-Node Writes Choice (tag_step scene) (arm_step scene) layer)
+
+  pub tag_partial : (at : ℕ) (name : List ℕ) (locals : List Local) (variables : Variables) → tag_writes scene (node.Render at name locals) variables ≡ scene.partial name (locals_in scene locals variables)
+  tag_partial at name locals variables = tag_is (Node-F.Render at name locals) (node.Render at name locals) variables (rolls-Render at name locals)
+
+  pub tag_collection : (at : ℕ) (name : List ℕ) (list : Expr) (item : List ℕ) (cached : Bool) (variables : Variables) → tag_writes scene (node.Collection at name list item cached) variables ≡ collection_writes scene name list item variables
+  tag_collection at name list item cached variables =
+      tag_is (Node-F.Collection at name list item cached) (node.Collection at name list item cached) variables (rolls-Collection at name list item cached)
+
+  pub written_partial : (at : ℕ) (name : List ℕ) (locals : List Local) (variables : Variables) → written scene (node.Render at name locals) variables ≡ tag_writes scene (node.Render at name locals) variables
+  written_partial at name locals variables =
+      by_step scene (Node-F.Render at name locals) (node.Render at name locals) variables (rolls-Render at name locals)
+      ∙ ap (λ (f : Writes). f variables) (fold-roll-Node Writes Choice (node_step scene) (arm_step scene) (Node-F.Render at name locals))
+      ∙ sym (tag_partial at name locals variables)
+
+  pub written_collection : (at : ℕ) (name : List ℕ) (list : Expr) (item : List ℕ) (cached : Bool) (variables : Variables) → written scene (node.Collection at name list item cached) variables ≡ tag_writes scene (node.Collection at name list item cached) variables
+  unfolding collection_writes
+  written_collection at name list item cached variables =
+      by_step scene (Node-F.Collection at name list item cached) (node.Collection at name list item cached) variables (rolls-Collection at name list item cached)
+      ∙ ap (λ (f : Writes). f variables) (fold-roll-Node Writes Choice (node_step scene) (arm_step scene) (Node-F.Collection at name list item cached))
+      ∙ sym (tag_collection at name list item cached variables)
+
+  -- another node is no such tag
+  abbrev IsNoTag : Node → Type 0
+  IsNoTag one = (variables : Variables) → ((at : ℕ) (name : List ℕ) (locals : List Local) → one ≡ node.Render at name locals → ⊥) → ((at : ℕ) (name : List ℕ) (list : Expr) (item : List ℕ) (cached : Bool) → one ≡ node.Collection at name list item cached → ⊥) → tag_writes scene one variables ≡ []
+
+  no_tag_layer : (layer : Node-F Node Arm) → IsNoTag (node.roll-Node layer)
+  no_tag_layer (Node-F.Text text) variables one other = tag_is (Node-F.Text text) (node.roll-Node (Node-F.Text text)) variables refl
+  no_tag_layer (Node-F.Write at expr) variables one other = tag_is (Node-F.Write at expr) (node.roll-Node (Node-F.Write at expr)) variables refl
+  no_tag_layer (Node-F.Raw at expr) variables one other = tag_is (Node-F.Raw at expr) (node.roll-Node (Node-F.Raw at expr)) variables refl
+  no_tag_layer (Node-F.If at arms otherwise) variables one other = tag_is (Node-F.If at arms otherwise) (node.roll-Node (Node-F.If at arms otherwise)) variables refl
+  no_tag_layer (Node-F.Each at list name body) variables one other = tag_is (Node-F.Each at list name body) (node.roll-Node (Node-F.Each at list name body)) variables refl
+  no_tag_layer (Node-F.Cache at block key body) variables one other = tag_is (Node-F.Cache at block key body) (node.roll-Node (Node-F.Cache at block key body)) variables refl
+  no_tag_layer (Node-F.Depends at name) variables one other = tag_is (Node-F.Depends at name) (node.roll-Node (Node-F.Depends at name)) variables refl
+  no_tag_layer (Node-F.Render at name locals) variables one other = absurd (one at name locals (rolls-Render at name locals))
+  no_tag_layer (Node-F.Collection at name list item cached) variables one other = absurd (other at name list item cached (rolls-Collection at name list item cached))
+
+  pub no_tag : (one : Node) → IsNoTag one
+  no_tag = ind-Node IsNoTag (λ arm. Unit {0})
+      (λ x y is. subst (λ z. IsNoTag (node.roll-Node z)) is (no_tag_layer (map-Node ((one : Node) × IsNoTag one) ((arm : Arm) × Unit {0}) Node Arm (λ p. p.0) (λ p. p.0) y)))
+      (λ x y is. tt)
 
 -- ---- items
 

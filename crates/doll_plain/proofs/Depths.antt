@@ -21,22 +21,22 @@ deepest templates = most depth templates
 
 -- what is left of so many levels and a rest of a tree
 unfoldable pub left_of : ℕ → List Template → ℕ → ℕ
-left_of levels templates rest = levels * (4 * deepest templates + 4) + rest
+left_of levels templates rest = levels * (4 * deepest templates + 5) + rest
 
 -- in one level less is left where less of the tree is
 pub less_left : (levels : ℕ) (templates : List Template) (less more : ℕ) → less < more → left_of levels templates less < left_of levels templates more
 unfolding left_of
 less_left levels templates less more h = omega arith
 
-level_room : (levels deep part : ℕ) → part ≤ deep → levels * (4 * deep + 4) + (4 * part + 3) < suc levels * (4 * deep + 4) + 0
+level_room : (levels deep part : ℕ) → part ≤ deep → levels * (4 * deep + 5) + (4 * part + 4) < suc levels * (4 * deep + 5) + 0
 level_room levels deep part below = omega arith
 
 -- the tree of a template is less than a level
-pub level_less : (levels : ℕ) (templates : List Template) (number : ℕ) (template : Template) → levels ≢ 0 → slice_get templates number ≡ Some template → left_of (levels - 1) templates (4 * most the_size template.tree + 3) < left_of levels templates 0
+pub level_less : (levels : ℕ) (templates : List Template) (number : ℕ) (template : Template) → levels ≢ 0 → slice_get templates number ≡ Some template → left_of (levels - 1) templates (4 * most the_size template.tree + 4) < left_of levels templates 0
 unfolding left_of deepest
 level_less zero templates number template some is = absurd (some refl)
 level_less (suc levels) templates number template some is =
-    subst (λ n. n * (4 * most depth templates + 4) + (4 * most the_size template.tree + 3) < suc levels * (4 * most depth templates + 4) + 0) (sym one)
+    subst (λ n. n * (4 * most depth templates + 5) + (4 * most the_size template.tree + 4) < suc levels * (4 * most depth templates + 5) + 0) (sym one)
     (level_room levels (most depth templates) (most the_size template.tree) below)
   where
     one : suc levels - 1 ≡ levels
@@ -59,39 +59,56 @@ cache_below at block key body = search (rules, the_lemmas)
 pub otherwise_below : (at : ℕ) (arms : List Arm) (otherwise : List Node) → most the_size otherwise < the_size (node.If at arms otherwise)
 otherwise_below at arms otherwise = search (rules, the_lemmas)
 
+if_size : (at : ℕ) (arms : List Arm) (otherwise : List Node) → the_size (node.If 0 arms otherwise) ≡ the_size (node.If at arms otherwise)
+if_size at arms otherwise = search (rules, the_lemmas)
+
 pub arm_below : (at : ℕ) (arms : List Arm) (otherwise : List Node) (k : ℕ) (arm : Arm) → k < length arms → arm ≡ get_or arms k arm → most the_size arm.body < the_size (node.If at arms otherwise)
 arm_below at arms otherwise k arm within is = search (rules, the_lemmas)
 
 -- ---- what is left of a part
 
 module _ (levels : ℕ) (templates : List Template) where
-  pub node_left : (nodes : List Node) (at : ℕ) (one : Node) → at < length nodes → one ≡ get_or nodes at one → left_of levels templates (4 * the_size one + 2) < left_of levels templates (4 * most the_size nodes + 3)
-  node_left nodes at one within is = let below = node_below nodes at one within is in less_left levels templates (4 * the_size one + 2) (4 * most the_size nodes + 3) (omega arith)
+  pub node_left : (nodes : List Node) (at : ℕ) (one : Node) → at < length nodes → one ≡ get_or nodes at one → left_of levels templates (4 * the_size one + 3) < left_of levels templates (4 * most the_size nodes + 4)
+  node_left nodes at one within is = let below = node_below nodes at one within is in less_left levels templates (4 * the_size one + 3) (4 * most the_size nodes + 4) (omega arith)
 
   -- a part with nodes that are less deep than the whole
-  pub part_left : (part nodes : List Node) (layer whole : Node) (rank : ℕ) → rank < 6 → most the_size part < the_size layer → nodes ≡ part → whole ≡ layer → left_of levels templates (4 * most the_size nodes + rank) < left_of levels templates (4 * the_size whole + 2)
+  pub part_left : (part nodes : List Node) (layer whole : Node) (rank : ℕ) → rank < 6 → most the_size part < the_size layer → nodes ≡ part → whole ≡ layer → left_of levels templates (4 * most the_size nodes + rank) < left_of levels templates (4 * the_size whole + 3)
   part_left part nodes layer whole rank low below same is =
-      subst (λ n. left_of levels templates (4 * most the_size n + rank) < left_of levels templates (4 * the_size whole + 2)) (sym same)
-      (subst (λ w. left_of levels templates (4 * most the_size part + rank) < left_of levels templates (4 * the_size w + 2)) (sym is)
-      (less_left levels templates (4 * most the_size part + rank) (4 * the_size layer + 2) (omega arith)))
+      subst (λ n. left_of levels templates (4 * most the_size n + rank) < left_of levels templates (4 * the_size whole + 3)) (sym same)
+      (subst (λ w. left_of levels templates (4 * most the_size part + rank) < left_of levels templates (4 * the_size w + 3)) (sym is)
+      (less_left levels templates (4 * most the_size part + rank) (4 * the_size layer + 3) (omega arith)))
 
-  pub tag_left : (node : Node) → left_of levels templates 1 < left_of levels templates (4 * the_size node + 2)
-  tag_left node = less_left levels templates 1 (4 * the_size node + 2) (omega arith)
+  pub tag_left : (node : Node) → left_of levels templates 2 < left_of levels templates (4 * the_size node + 3)
+  tag_left node = less_left levels templates 2 (4 * the_size node + 3) (omega arith)
 
-  pub partial_left : left_of levels templates 0 < left_of levels templates 1
-  partial_left = less_left levels templates 0 1 (omega arith)
+  pub partial_left : (less more : ℕ) → less < more → left_of levels templates less < left_of levels templates more
+  partial_left less more h = less_left levels templates less more h
 
-  pub body_left : (nodes : List Node) → left_of levels templates (4 * most the_size nodes + 3) < left_of levels templates (4 * most the_size nodes + 4)
-  body_left nodes = less_left levels templates (4 * most the_size nodes + 3) (4 * most the_size nodes + 4) (omega arith)
+  pub body_left : (nodes : List Node) → left_of levels templates (4 * most the_size nodes + 4) < left_of levels templates (4 * most the_size nodes + 5)
+  body_left nodes = less_left levels templates (4 * most the_size nodes + 4) (4 * most the_size nodes + 5) (omega arith)
+
+  -- the parts of an `if`
+  pub if_left : (at : ℕ) (arms : List Arm) (otherwise : List Node) (whole : Node) → whole ≡ node.If at arms otherwise → left_of levels templates (4 * the_size (node.If 0 arms otherwise) + 2) < left_of levels templates (4 * the_size whole + 3)
+  if_left at arms otherwise whole is =
+      subst (λ w. left_of levels templates (4 * the_size (node.If 0 arms otherwise) + 2) < left_of levels templates (4 * the_size w + 3)) (sym is)
+      (less_left levels templates (4 * the_size (node.If 0 arms otherwise) + 2) (4 * the_size (node.If at arms otherwise) + 3) (omega (arith, if_size at arms otherwise)))
+
+  inside_if : (arms : List Arm) (otherwise part nodes : List Node) → most the_size part < the_size (node.If 0 arms otherwise) → nodes ≡ part → left_of levels templates (4 * most the_size nodes + 4) < left_of levels templates (4 * the_size (node.If 0 arms otherwise) + 2)
+  inside_if arms otherwise part nodes below same =
+      subst (λ n. left_of levels templates (4 * most the_size n + 4) < left_of levels templates (4 * the_size (node.If 0 arms otherwise) + 2)) (sym same)
+      (less_left levels templates (4 * most the_size part + 4) (4 * the_size (node.If 0 arms otherwise) + 2) (omega (arith, below)))
+
+  pub otherwise_left : (arms : List Arm) (otherwise nodes : List Node) → nodes ≡ otherwise → left_of levels templates (4 * most the_size nodes + 4) < left_of levels templates (4 * the_size (node.If 0 arms otherwise) + 2)
+  otherwise_left arms otherwise nodes same = inside_if arms otherwise otherwise nodes (otherwise_below 0 arms otherwise) same
 
   -- the body of an arm that was found
-  pub arm_left : (at : ℕ) (arms items : List Arm) (otherwise : List Node) (k : ℕ) (arm : Arm) (nodes : List Node) (whole : Node) → k < length items → arm ≡ get_or items k arm → items ≡ arms → nodes ≡ arm.body → whole ≡ node.If at arms otherwise → left_of levels templates (4 * most the_size nodes + 3) < left_of levels templates (4 * the_size whole + 2)
-  arm_left at arms items otherwise k arm nodes whole within is listed same whole_is =
-      part_left arm.body nodes (node.If at arms otherwise) whole 3 (omega arith)
-      (arm_below at arms otherwise k arm (subst (λ xs. k < length xs) listed within) (subst (λ xs. arm ≡ get_or xs k arm) listed is))
-      same whole_is
+  pub arm_left : (arms items : List Arm) (otherwise : List Node) (k : ℕ) (arm : Arm) (nodes : List Node) → k < length items → arm ≡ get_or items k arm → items ≡ arms → nodes ≡ arm.body → left_of levels templates (4 * most the_size nodes + 4) < left_of levels templates (4 * the_size (node.If 0 arms otherwise) + 2)
+  arm_left arms items otherwise k arm nodes within is listed same =
+      inside_if arms otherwise arm.body nodes
+      (arm_below 0 arms otherwise k arm (subst (λ xs. k < length xs) listed within) (subst (λ xs. arm ≡ get_or xs k arm) listed is))
+      same
 
   -- the tree of a template that was found
-  pub tree_left : (number : ℕ) (template : Template) (tree : List Node) → levels ≢ 0 → slice_get templates number ≡ Some template → tree ≡ template.tree → left_of (levels - 1) templates (4 * most the_size tree + 3) < left_of levels templates 0
+  pub tree_left : (number : ℕ) (template : Template) (tree : List Node) → levels ≢ 0 → slice_get templates number ≡ Some template → tree ≡ template.tree → left_of (levels - 1) templates (4 * most the_size tree + 4) < left_of levels templates 0
   tree_left number template tree some is same =
-      subst (λ nodes. left_of (levels - 1) templates (4 * most the_size nodes + 3) < left_of levels templates 0) (sym same) (level_less levels templates number template some is)
+      subst (λ nodes. left_of (levels - 1) templates (4 * most the_size nodes + 4) < left_of levels templates 0) (sym same) (level_less levels templates number template some is)

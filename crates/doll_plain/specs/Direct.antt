@@ -7,7 +7,7 @@ use Rattle.doll_schema.specs.declared.model.Schema.{Schema}
 use Rattle.doll_expr.specs.declared.expr.Expr.{Expr}
 use Rattle.doll_erb.specs.declared.node.Node.{Node, fold-Node}
 use Rattle.doll_erb.specs.declared.node.Node.TheOpen.{Node-F}
-use Rattle.doll_erb.specs.declared.node.Arm.{Arm-F}
+use Rattle.doll_erb.specs.declared.node.Arm.{Arm, Arm-F}
 use Rattle.doll_erb.specs.declared.node.Local.{Local}
 use Rattle.doll_table.specs.Tables.{TableMap}
 use Rattle.doll_eval.specs.Operations as of
@@ -76,6 +76,14 @@ direct scene tree variables = flat_map (λ node. written scene node variables) t
 
 -- ---- parts of nodes
 
+-- an arm as a choice
+abbrev pub choice : Scene → Arm → Choice
+choice scene arm = record { holds = λ variables. of.is_true (value_in scene arm.test variables); writes = in_order (map (written scene) arm.body) }
+
+-- what the first of some arms whose test holds writes, else the last part
+unfoldable pub if_writes : Scene → List Arm → List Node → Writes
+if_writes scene arms otherwise variables = chosen (map (choice scene) arms) (map (written scene) otherwise) variables
+
 -- what a body writes for each item of a list, with the item under a name
 unfoldable pub each_writes : Scene → Expr → List ℕ → List Node → Writes
 each_writes scene list name body variables = flat_map (λ item. direct scene body (variables ++ (name, item) ∷ [])) (items_of (value_in scene list variables))
@@ -87,3 +95,12 @@ collection_writes scene name list item variables = flat_map (λ one. scene.parti
 -- the variables that a partial is rendered with
 abbrev pub locals_in : Scene → List Local → Variables → Variables
 locals_in scene locals variables = map (λ (l : Local). (l.name, value_in scene l.value variables)) locals
+
+-- what a tag that renders a partial writes; no other node is such a tag
+abbrev pub tag_step : Scene → Node-F Writes Choice → Writes
+tag_step scene (Node-F.Render at name locals) variables = scene.partial name (locals_in scene locals variables)
+tag_step scene (Node-F.Collection at name list item cached) variables = collection_writes scene name list item variables
+tag_step scene other variables = []
+
+unfoldable pub tag_writes : Scene → Node → Writes
+tag_writes scene = fold-Node Writes Choice (tag_step scene) (arm_step scene)

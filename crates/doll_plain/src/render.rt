@@ -5,11 +5,11 @@ ghost use Rattle.doll_table.specs.Fits.{Fits};
 ghost use Rattle.doll_eval.specs.Living.{AreLiving};
 ghost use Rattle.doll_eval.specs.Operations;
 ghost use Rattle.doll_eval.specs.Values.{value_of};
-ghost use Rattle.doll_plain.specs.Direct.{collection_writes, direct, each_writes, locals_in, written};
+ghost use Rattle.doll_plain.specs.Direct.{collection_writes, direct, each_writes, if_writes, locals_in, tag_writes, written};
 ghost use Rattle.doll_plain.specs.Pages.{levels_write, scene_of};
 
 use crate::binding::{Records, bind, holds, items, locals_of, one_var, unbind};
-use doll_erb::{Local, Node};
+use doll_erb::{Arms, Local, Node, Tree};
 use doll_eval::{eval, print};
 use doll_expr::{Expr, Memory, Name};
 use doll_schema::{Schema, Vars};
@@ -113,29 +113,13 @@ fn render_node<R: Rows>(
 {
     match node {
         Node::Text(text) => Ok(out.extend_from_slice(text.as_bytes())?),
-        Node::Write { expr, .. } => write_value(
-            alloc,
-            context.schema,
-            expr,
-            false,
-            vars,
-            rows,
-            out,
-        ),
-        Node::Raw { expr, .. } => write_value(alloc, context.schema, expr, true, vars, rows, out),
+        Node::Write { expr, .. } => write_value(alloc, context, expr, false, vars, rows, out),
+        Node::Raw { expr, .. } => write_value(alloc, context, expr, true, vars, rows, out),
         Node::If {
             arms,
             otherwise,
             ..
-        } => {
-            for arm in arms.as_slice() {
-                let held = holds(alloc, &arm.test, vars, context.schema, rows)?;
-                if held {
-                    return render(alloc, context, arm.body.as_slice(), vars, rows, out);
-                }
-            }
-            render(alloc, context, otherwise.as_slice(), vars, rows, out)
-        }
+        } => render_if(alloc, context, arms, otherwise, vars, rows, out),
         Node::Each {
             list,
             name,
@@ -143,25 +127,8 @@ fn render_node<R: Rows>(
             ..
         } => render_each(alloc, context, list, name, body.as_slice(), vars, rows, out),
         Node::Cache { body, .. } => render(alloc, context, body.as_slice(), vars, rows, out),
-        Node::Render { at, name, locals } => {
-            render_partial(
-                alloc,
-                context,
-                *at,
-                name,
-                locals.as_slice(),
-                vars,
-                rows,
-                out,
-            )
-        }
-        Node::Collection {
-            at,
-            name,
-            list,
-            item,
-            ..
-        } => render_collection(alloc, context, *at, name, list, item, vars, rows, out),
+        Node::Render { .. } => render_tag(alloc, context, node, vars, rows, out),
+        Node::Collection { .. } => render_tag(alloc, context, node, vars, rows, out),
         Node::Depends { .. } => Ok(()),
     }
 }
@@ -169,21 +136,48 @@ fn render_node<R: Rows>(
 /// Appends the value of an expression, escaped unless it is written raw.
 fn write_value<R: Rows>(
     alloc: Global,
-    schema: &Schema,
+    context: &Context<'_>,
     expr: &Expr,
     raw: bool,
     vars: &Vars,
     rows: &mut R,
     out: &mut Vec<u8>,
 ) -> Result<(), Memory>
-    requires fits { Fits schema.now (R.table rows.old) }
+    requires fits { Fits context.now.schema.now (R.table rows.old) }
     requires living { AreLiving (R.table rows.old) vars.now }
     ensures page { OnOk result (out.new.items ≡ out.old.items
-        ++ Operations.written raw (value_of expr.now vars.now schema.now (R.table rows.old))) }
+        ++ Operations.written raw (value_of expr.now vars.now context.now.schema.now (R.table rows.old))) }
     ensures table { R.table rows.new ≡ R.table rows.old }
 {
-    let value = eval(alloc, expr, vars, schema, rows)?;
+    let value = eval(alloc, expr, vars, context.schema, rows)?;
     print(&value, raw, out)
+}
+
+/// Appends what the first arm whose test holds writes, else the last part.
+#[cycle(render)]
+fn render_if<R: Rows>(
+    alloc: Global,
+    context: &Context<'_>,
+    arms: &Arms,
+    otherwise: &Tree,
+    vars: &mut Vars,
+    rows: &mut R,
+    out: &mut Vec<u8>,
+) -> Result<(), Memory>
+    requires fits { Fits context.now.schema.now (R.table rows.old) }
+    requires living { AreLiving (R.table rows.old) vars.old }
+    ensures page { OnOk result (out.new.items ≡ out.old.items
+        ++ if_writes (scene_of context.now (R.table rows.old)) arms.now otherwise.now vars.old) }
+    ensures vars { OnOk result (vars.new ≡ vars.old) }
+    ensures table { R.table rows.new ≡ R.table rows.old }
+{
+    for arm in arms.as_slice() {
+        let held = holds(alloc, &arm.test, vars, context.schema, rows)?;
+        if held {
+            return render(alloc, context, arm.body.as_slice(), vars, rows, out);
+        }
+    }
+    render(alloc, context, otherwise.as_slice(), vars, rows, out)
 }
 
 /// Appends what a body writes for each item of a list, with the item under a name.
@@ -212,6 +206,46 @@ fn render_each<R: Rows>(
         unbind(vars);
     }
     Ok(())
+}
+
+/// Appends what a tag that renders a partial writes.
+#[cycle(render)]
+fn render_tag<R: Rows>(
+    alloc: Global,
+    context: &Context<'_>,
+    node: &Node,
+    vars: &Vars,
+    rows: &mut R,
+    out: &mut Vec<u8>,
+) -> Result<(), Memory>
+    requires fits { Fits context.now.schema.now (R.table rows.old) }
+    requires living { AreLiving (R.table rows.old) vars.now }
+    ensures page { OnOk result (out.new.items ≡ out.old.items
+        ++ tag_writes (scene_of context.now (R.table rows.old)) node.now vars.now) }
+    ensures table { R.table rows.new ≡ R.table rows.old }
+{
+    match node {
+        Node::Render { at, name, locals } => {
+            render_partial(
+                alloc,
+                context,
+                *at,
+                name,
+                locals.as_slice(),
+                vars,
+                rows,
+                out,
+            )
+        }
+        Node::Collection {
+            at,
+            name,
+            list,
+            item,
+            ..
+        } => render_collection(alloc, context, *at, name, list, item, vars, rows, out),
+        _ => Ok(()),
+    }
 }
 
 /// Appends what a partial writes with its own variables alone.

@@ -6,11 +6,11 @@ use Rattle.doll_schema.specs.declared.value.Val.{Val}
 use Rattle.doll_schema.specs.declared.value.Val.TheVariants as val
 use Rattle.doll_table.specs.Tables.{row_of}
 use Rattle.doll_eval.proofs.Livings.{bound_live}
-use Rattle.doll_plain.specs.Direct.{collection_writes, direct, each_writes, locals_in, written}
+use Rattle.doll_plain.specs.Direct.{collection_writes, direct, each_writes, if_writes, locals_in, tag_writes, written}
 use Rattle.doll_plain.specs.Pages.{levels_write, scene_of}
 use Rattle.doll_plain.proofs.Parts.{alone_lives, living_along, front_is}
-use Rattle.doll_plain.proofs.Choices.{choosing, choosing_here, choosing_on, choosing_last, collection_none, collection_record, each_record, for_records, moved, no_records, node_more, record_more, tested_along, written_cache, written_collection, written_each, written_if, written_partial}
-use Rattle.doll_plain.proofs.Depths.{arm_left, body_left, cache_below, each_below, node_left, otherwise_below, part_left, partial_left, tag_left, tree_left}
+use Rattle.doll_plain.proofs.Choices.{choosing_here, choosing_on, choosing_last, collection_none, collection_record, each_record, for_records, moved, no_records, no_tag, node_more, record_more, tested_along, written_cache, written_collection, written_each, written_if, written_partial, tag_collection, tag_partial}
+use Rattle.doll_plain.proofs.Depths.{arm_left, body_left, cache_below, each_below, if_left, node_left, otherwise_left, part_left, partial_left, tag_left, tree_left}
 use Rattle.doll_plain.proofs.Templates.{found_there, no_level, no_template, not_there, partial_along, template_more, unknown_partial}
 use Rattle.doll_plain.proofs.render.+render.Goals as goal
 
@@ -27,38 +27,53 @@ render-render_node-requires g t c κs within =
     let below = node_left c.args.context.now.levels c.args.context.now.set.now.templates c.args.nodes.now c.loop-node.node-index c.node-item.result c.loop-node-test.true c.node-item.is in
     (first_of (omega (arith, below), grind (arith, below)), (search rules, (search rules, living_along (g.R.Rows.table c.loop-node.rows) (g.R.Rows.table c.args.rows.now) c.loop-node.vars c.args.vars.now c.loop-node.invariant.table c.loop-node.invariant.vars c.requires.living)))
 
-pub render_node-render-requires : goal.render_node-render-requires
-render_node-render-requires g t c κs within =
-    let below = arm_left c.args.context.now.levels c.args.context.now.set.now.templates c.in-If.at c.in-If.arms c.as_slice-arm-items.result.now c.in-If.otherwise c.loop-arm.arm-index c.arm-item.result c.as_slice.result.now c.args.node.now c.loop-arm-test.true c.arm-item.is c.as_slice-arm-items.ensures c.as_slice.ensures c.in-If.is in (
+pub render_node-render_if-requires : goal.render_node-render_if-requires
+render_node-render_if-requires g t c κs within =
+    let below = if_left c.args.context.now.levels c.args.context.now.set.now.templates c.in-If.at c.in-If.arms c.in-If.otherwise c.args.node.now c.in-If.is in
+    (first_of (omega (arith, below), grind (arith, below)), (search rules, (search rules, search rules)))
+
+pub render_node-render_tag-requires : goal.render_node-render_tag-requires
+render_node-render_tag-requires g t c κs within =
+    let below = tag_left c.args.context.now.levels c.args.context.now.set.now.templates c.args.node.now in
+    (first_of (omega (arith, below), grind (arith, below)), (search rules, (search rules, search rules)))
+
+pub render_node-render_tag-requires-in-Collection : goal.render_node-render_tag-requires-in-Collection
+render_node-render_tag-requires-in-Collection g t c κs within =
+    let below = tag_left c.args.context.now.levels c.args.context.now.set.now.templates c.args.node.now in
+    (first_of (omega (arith, below), grind (arith, below)), (search rules, (search rules, search rules)))
+
+pub render_if-render-requires : goal.render_if-render-requires
+render_if-render-requires g t c κs within =
+    let below = arm_left c.args.context.now.levels c.args.context.now.set.now.templates c.args.arms.now c.as_slice-arm-items.result.now c.args.otherwise.now c.loop-arm.arm-index c.arm-item.result c.as_slice.result.now c.loop-arm-test.true c.arm-item.is c.as_slice-arm-items.ensures c.as_slice.ensures in (
       first_of (omega (arith, below), grind (arith, below)),
       (search rules, (search rules, living_along (g.R.Rows.table c.holds.new.rows) (g.R.Rows.table c.args.rows.now) c.loop-arm.vars c.args.vars.now (c.holds.ensures.table ∙ c.loop-arm.invariant.table) c.loop-arm.invariant.vars c.requires.living)),
     )
 
-pub render_node-render-requires-in-If : goal.render_node-render-requires-in-If
-render_node-render-requires-in-If g t c κs within =
-    let below = part_left c.args.context.now.levels c.args.context.now.set.now.templates c.in-If.otherwise c.as_slice-in-If.result.now (node.If c.in-If.at c.in-If.arms c.in-If.otherwise) c.args.node.now 3 (omega arith) (otherwise_below c.in-If.at c.in-If.arms c.in-If.otherwise) c.as_slice-in-If.ensures c.in-If.is in (
+pub render_if-render-requires-2 : goal.render_if-render-requires-2
+render_if-render-requires-2 g t c κs within =
+    let below = otherwise_left c.args.context.now.levels c.args.context.now.set.now.templates c.args.arms.now c.args.otherwise.now c.as_slice-2.result.now c.as_slice-2.ensures in (
       first_of (omega (arith, below), grind (arith, below)),
       (search rules, (search rules, living_along (g.R.Rows.table c.loop-arm.rows) (g.R.Rows.table c.args.rows.now) c.loop-arm.vars c.args.vars.now c.loop-arm.invariant.table c.loop-arm.invariant.vars c.requires.living)),
     )
 
-pub render_node-render-requires-in-Cache : goal.render_node-render-requires-in-Cache
-render_node-render-requires-in-Cache g t c κs within =
-    let below = part_left c.args.context.now.levels c.args.context.now.set.now.templates c.in-Cache.body c.as_slice-in-Cache.result.now (node.Cache c.in-Cache.at c.in-Cache.block c.in-Cache.key c.in-Cache.body) c.args.node.now 3 (omega arith) (cache_below c.in-Cache.at c.in-Cache.block c.in-Cache.key c.in-Cache.body) c.as_slice-in-Cache.ensures c.in-Cache.is in
+pub render_tag-render_partial-requires : goal.render_tag-render_partial-requires
+render_tag-render_partial-requires g t c κs within =
+    let below = partial_left c.args.context.now.levels c.args.context.now.set.now.templates 1 2 (omega arith) in
+    (first_of (omega (arith, below), grind (arith, below)), (search rules, (search rules, search rules)))
+
+pub render_tag-render_collection-requires : goal.render_tag-render_collection-requires
+render_tag-render_collection-requires g t c κs within =
+    let below = partial_left c.args.context.now.levels c.args.context.now.set.now.templates 1 2 (omega arith) in
+    (first_of (omega (arith, below), grind (arith, below)), (search rules, (search rules, search rules)))
+
+pub render_node-render-requires : goal.render_node-render-requires
+render_node-render-requires g t c κs within =
+    let below = part_left c.args.context.now.levels c.args.context.now.set.now.templates c.in-Cache.body c.as_slice-in-Cache.result.now (node.Cache c.in-Cache.at c.in-Cache.block c.in-Cache.key c.in-Cache.body) c.args.node.now 4 (omega arith) (cache_below c.in-Cache.at c.in-Cache.block c.in-Cache.key c.in-Cache.body) c.as_slice-in-Cache.ensures c.in-Cache.is in
     (first_of (omega (arith, below), grind (arith, below)), (search rules, (search rules, search rules)))
 
 pub render_node-render_each-requires : goal.render_node-render_each-requires
 render_node-render_each-requires g t c κs within =
-    let below = part_left c.args.context.now.levels c.args.context.now.set.now.templates c.in-Each.body c.as_slice-in-Each.result.now (node.Each c.in-Each.at c.in-Each.list c.in-Each.name c.in-Each.body) c.args.node.now 4 (omega arith) (each_below c.in-Each.at c.in-Each.list c.in-Each.name c.in-Each.body) c.as_slice-in-Each.ensures c.in-Each.is in
-    (first_of (omega (arith, below), grind (arith, below)), (search rules, (search rules, search rules)))
-
-pub render_node-render_partial-requires : goal.render_node-render_partial-requires
-render_node-render_partial-requires g t c κs within =
-    let below = tag_left c.args.context.now.levels c.args.context.now.set.now.templates c.args.node.now in
-    (first_of (omega (arith, below), grind (arith, below)), (search rules, (search rules, search rules)))
-
-pub render_node-render_collection-requires : goal.render_node-render_collection-requires
-render_node-render_collection-requires g t c κs within =
-    let below = tag_left c.args.context.now.levels c.args.context.now.set.now.templates c.args.node.now in
+    let below = part_left c.args.context.now.levels c.args.context.now.set.now.templates c.in-Each.body c.as_slice.result.now (node.Each c.in-Each.at c.in-Each.list c.in-Each.name c.in-Each.body) c.args.node.now 5 (omega arith) (each_below c.in-Each.at c.in-Each.list c.in-Each.name c.in-Each.body) c.as_slice.ensures c.in-Each.is in
     (first_of (omega (arith, below), grind (arith, below)), (search rules, (search rules, search rules)))
 
 pub render_each-render-requires : goal.render_each-render-requires
@@ -86,7 +101,7 @@ render_each-render-requires g t c κs within =
 
 pub render_partial-render_template-requires : goal.render_partial-render_template-requires
 render_partial-render_template-requires g t c κs within =
-    let below = partial_left c.args.context.now.levels c.args.context.now.set.now.templates in
+    let below = partial_left c.args.context.now.levels c.args.context.now.set.now.templates 0 1 (omega arith) in
     (first_of (omega (arith, below), grind (arith, below)), (search rules, (search rules, living_along (g.R.Rows.table c.locals_of.new.rows) (g.R.Rows.table c.args.rows.now) c.in_ok-own.own c.in_ok-own.own c.locals_of.ensures.table refl c.in_ok-own.ensures.living)))
 
 pub render_collection-render_template-requires : goal.render_collection-render_template-requires
@@ -99,7 +114,7 @@ render_collection-render_template-requires g t c κs within =
     let lives : IsSome (row_of table model (get_or items c.loop-id.id-index 0)) =
     subst (λ ids. IsSome (row_of table model (get_or ids c.loop-id.id-index 0))) items_are
     (c.in_ok-model.ensures.living c.loop-id.id-index 0 (subst (λ ids. c.loop-id.id-index < length ids) (sym items_are) c.loop-id-test.true)) in
-    let below = partial_left c.args.context.now.levels c.args.context.now.set.now.templates in (
+    let below = partial_left c.args.context.now.levels c.args.context.now.set.now.templates 0 1 (omega arith) in (
       first_of (omega (arith, below), grind (arith, below)),
       (
         search rules,
@@ -123,66 +138,103 @@ render_node-returns-in-Cache-clause-page g t c =
     let scene = scene_of c.args.context.now (g.R.Rows.table c.args.rows.now) in
     let same : direct scene c.as_slice-in-Cache.result.now c.args.vars.now ≡ written scene c.args.node.now c.args.vars.now =
     ap (λ b. direct scene b c.args.vars.now) c.as_slice-in-Cache.ensures ∙ sym (ap (λ n. written scene n c.args.vars.now) c.in-Cache.is ∙ written_cache scene c.in-Cache.at c.in-Cache.block c.in-Cache.key c.in-Cache.body c.args.vars.now) in
-    subst (λ p. OnOk c.render-in-Cache.result (c.render-in-Cache.new.out.items ≡ c.args.out.now.items ++ p)) same c.render-in-Cache.ensures.page
+    subst (λ p. OnOk c.render.result (c.render.new.out.items ≡ c.args.out.now.items ++ p)) same c.render.ensures.page
 
 pub render_node-returns-in-Each-clause-page : goal.render_node-returns-in-Each-clause-page
 render_node-returns-in-Each-clause-page g t c =
     let scene = scene_of c.args.context.now (g.R.Rows.table c.args.rows.now) in
-    let same : each_writes scene c.in-Each.list c.in-Each.name c.as_slice-in-Each.result.now c.args.vars.now ≡ written scene c.args.node.now c.args.vars.now =
-    ap (λ b. each_writes scene c.in-Each.list c.in-Each.name b c.args.vars.now) c.as_slice-in-Each.ensures ∙ sym (ap (λ n. written scene n c.args.vars.now) c.in-Each.is ∙ written_each scene c.in-Each.at c.in-Each.list c.in-Each.name c.in-Each.body c.args.vars.now) in
+    let same : each_writes scene c.in-Each.list c.in-Each.name c.as_slice.result.now c.args.vars.now ≡ written scene c.args.node.now c.args.vars.now =
+    ap (λ b. each_writes scene c.in-Each.list c.in-Each.name b c.args.vars.now) c.as_slice.ensures ∙ sym (ap (λ n. written scene n c.args.vars.now) c.in-Each.is ∙ written_each scene c.in-Each.at c.in-Each.list c.in-Each.name c.in-Each.body c.args.vars.now) in
     subst (λ p. OnOk c.render_each.result (c.render_each.new.out.items ≡ c.args.out.now.items ++ p)) same c.render_each.ensures.page
+
+pub render_node-returns-in-If-clause-page : goal.render_node-returns-in-If-clause-page
+render_node-returns-in-If-clause-page g t c =
+    let variables = c.args.vars.now in
+    let scene = scene_of c.args.context.now (g.R.Rows.table c.args.rows.now) in
+    let same : if_writes scene c.in-If.arms c.in-If.otherwise variables ≡ written scene c.args.node.now variables =
+    sym (ap (λ n. written scene n variables) c.in-If.is ∙ written_if scene c.in-If.at c.in-If.arms c.in-If.otherwise variables) in
+    subst (λ p. OnOk c.render_if.result (c.render_if.new.out.items ≡ c.args.out.now.items ++ p)) same c.render_if.ensures.page
 
 pub render_node-returns-in-Render-clause-page : goal.render_node-returns-in-Render-clause-page
 render_node-returns-in-Render-clause-page g t c =
+    let variables = c.args.vars.now in
     let scene = scene_of c.args.context.now (g.R.Rows.table c.args.rows.now) in
-    let same : scene.partial c.in-Render.name (locals_in scene c.as_slice-in-Render.result.now c.args.vars.now) ≡ written scene c.args.node.now c.args.vars.now =
-    ap (λ locals. scene.partial c.in-Render.name (locals_in scene locals c.args.vars.now)) c.as_slice-in-Render.ensures ∙ sym (ap (λ n. written scene n c.args.vars.now) c.in-Render.is ∙ written_partial scene c.in-Render.at c.in-Render.name c.in-Render.locals c.args.vars.now) in
-    subst (λ p. OnOk c.render_partial.result (c.render_partial.new.out.items ≡ c.args.out.now.items ++ p)) same c.render_partial.ensures.page
+    let same : tag_writes scene c.args.node.now variables ≡ written scene c.args.node.now variables =
+    ap (λ n. tag_writes scene n variables) c.in-Render.is
+    ∙ sym (ap (λ n. written scene n variables) c.in-Render.is ∙ written_partial scene c.in-Render.at c.in-Render.name c.in-Render.locals variables) in
+    subst (λ p. OnOk c.render_tag.result (c.render_tag.new.out.items ≡ c.args.out.now.items ++ p)) same c.render_tag.ensures.page
 
 pub render_node-returns-in-Collection-clause-page : goal.render_node-returns-in-Collection-clause-page
 render_node-returns-in-Collection-clause-page g t c =
-    let scene = scene_of c.args.context.now (g.R.Rows.table c.args.rows.now) in
-    let same : collection_writes scene c.in-Collection.name c.in-Collection.list c.in-Collection.item c.args.vars.now ≡ written scene c.args.node.now c.args.vars.now =
-    sym (ap (λ n. written scene n c.args.vars.now) c.in-Collection.is ∙ written_collection scene c.in-Collection.at c.in-Collection.name c.in-Collection.list c.in-Collection.item c.in-Collection.cached c.args.vars.now) in
-    subst (λ p. OnOk c.render_collection.result (c.render_collection.new.out.items ≡ c.args.out.now.items ++ p)) same c.render_collection.ensures.page
-
-pub render_node-returns-then-held-clause-page : goal.render_node-returns-then-held-clause-page
-render_node-returns-then-held-clause-page g t c =
     let variables = c.args.vars.now in
     let scene = scene_of c.args.context.now (g.R.Rows.table c.args.rows.now) in
-    let tested = tested_along c.in_ok-held-in-If.held true c.arm-item.result.test c.args.context.now.schema.now c.loop-arm.invariant.table c.loop-arm.invariant.vars c.if-held.true c.in_ok-held-in-If.ensures.value in
-    let same : direct scene c.arm-item.result.body variables ≡ written scene c.args.node.now variables =
-    sym (ap (λ n. written scene n variables) c.in-If.is
-    ∙ written_if scene c.in-If.at c.in-If.arms c.in-If.otherwise variables
-    ∙ ap (λ arms. choosing scene arms c.in-If.otherwise variables) (sym c.as_slice-arm-items.ensures)
+    let same : tag_writes scene c.args.node.now variables ≡ written scene c.args.node.now variables =
+    ap (λ n. tag_writes scene n variables) c.in-Collection.is
+    ∙ sym (ap (λ n. written scene n variables) c.in-Collection.is ∙ written_collection scene c.in-Collection.at c.in-Collection.name c.in-Collection.list c.in-Collection.item c.in-Collection.cached variables) in
+    subst (λ p. OnOk c.render_tag-in-Collection.result (c.render_tag-in-Collection.new.out.items ≡ c.args.out.now.items ++ p)) same c.render_tag-in-Collection.ensures.page
+
+pub render_tag-returns-in-Render-clause-page : goal.render_tag-returns-in-Render-clause-page
+render_tag-returns-in-Render-clause-page g t c =
+    let variables = c.args.vars.now in
+    let scene = scene_of c.args.context.now (g.R.Rows.table c.args.rows.now) in
+    let same : scene.partial c.in-Render.name (locals_in scene c.as_slice.result.now variables) ≡ tag_writes scene c.args.node.now variables =
+    ap (λ locals. scene.partial c.in-Render.name (locals_in scene locals variables)) c.as_slice.ensures
+    ∙ sym (ap (λ n. tag_writes scene n variables) c.in-Render.is ∙ tag_partial scene c.in-Render.at c.in-Render.name c.in-Render.locals variables) in
+    subst (λ p. OnOk c.render_partial.result (c.render_partial.new.out.items ≡ c.args.out.now.items ++ p)) same c.render_partial.ensures.page
+
+pub render_tag-returns-in-Collection-clause-page : goal.render_tag-returns-in-Collection-clause-page
+render_tag-returns-in-Collection-clause-page g t c =
+    let variables = c.args.vars.now in
+    let scene = scene_of c.args.context.now (g.R.Rows.table c.args.rows.now) in
+    let same : collection_writes scene c.in-Collection.name c.in-Collection.list c.in-Collection.item variables ≡ tag_writes scene c.args.node.now variables =
+    sym (ap (λ n. tag_writes scene n variables) c.in-Collection.is ∙ tag_collection scene c.in-Collection.at c.in-Collection.name c.in-Collection.list c.in-Collection.item c.in-Collection.cached variables) in
+    subst (λ p. OnOk c.render_collection.result (c.render_collection.new.out.items ≡ c.args.out.now.items ++ p)) same c.render_collection.ensures.page
+
+pub render_tag-returns-in_default : goal.render_tag-returns-in_default
+render_tag-returns-in_default g t c =
+    let nothing = no_tag (scene_of c.args.context.now (g.R.Rows.table c.args.rows.now)) c.args.node.now c.args.vars.now c.in_default.not-Render c.in_default.not-Collection in
+    record {
+      page = sym (ap (λ w. c.args.out.now.items ++ w) nothing ∙ append-nil c.args.out.now.items);
+      table = refl;
+    }
+
+-- ---- arms
+
+pub render_if-returns-then-held-clause-page : goal.render_if-returns-then-held-clause-page
+render_if-returns-then-held-clause-page g t c =
+    let variables = c.args.vars.now in
+    let otherwise = c.args.otherwise.now in
+    let scene = scene_of c.args.context.now (g.R.Rows.table c.args.rows.now) in
+    let tested = tested_along c.in_ok-held.held true c.arm-item.result.test c.args.context.now.schema.now c.loop-arm.invariant.table c.loop-arm.invariant.vars c.if-held.true c.in_ok-held.ensures.value in
+    let same : direct scene c.arm-item.result.body variables ≡ if_writes scene c.args.arms.now otherwise variables =
+    sym (ap (λ arms. if_writes scene arms otherwise variables) (sym c.as_slice-arm-items.ensures)
     ∙ sym c.loop-arm.invariant.left
-    ∙ choosing_here scene c.as_slice-arm-items.result.now c.in-If.otherwise variables c.loop-arm.arm-index c.arm-item.result c.loop-arm-test.true c.arm-item.is tested) in
+    ∙ choosing_here scene c.as_slice-arm-items.result.now otherwise variables c.loop-arm.arm-index c.arm-item.result c.loop-arm-test.true c.arm-item.is tested) in
     subst (λ p. OnOk c.render.result (c.render.new.out.items ≡ c.args.out.now.items ++ p)) same
     (moved c.render.result c.render.new.out.items (scene_of c.args.context.now) (c.holds.ensures.table ∙ c.loop-arm.invariant.table) c.loop-arm.invariant.vars c.as_slice.ensures c.loop-arm.invariant.nothing c.render.ensures.page)
 
-pub render_node-loop-arm-preserved : goal.render_node-loop-arm-preserved
-render_node-loop-arm-preserved g t c =
+pub render_if-loop-arm-preserved : goal.render_if-loop-arm-preserved
+render_if-loop-arm-preserved g t c =
     let scene = scene_of c.args.context.now (g.R.Rows.table c.args.rows.now) in
-    let tested = tested_along c.in_ok-held-in-If.held false c.arm-item.result.test c.args.context.now.schema.now c.loop-arm.invariant.table c.loop-arm.invariant.vars c.if-held.false c.in_ok-held-in-If.ensures.value in
+    let tested = tested_along c.in_ok-held.held false c.arm-item.result.test c.args.context.now.schema.now c.loop-arm.invariant.table c.loop-arm.invariant.vars c.if-held.false c.in_ok-held.ensures.value in
     record {
       table = c.holds.ensures.table ∙ c.loop-arm.invariant.table;
       vars = c.loop-arm.invariant.vars;
       nothing = c.loop-arm.invariant.nothing;
-      left = sym (choosing_on scene c.as_slice-arm-items.result.now c.in-If.otherwise c.args.vars.now c.loop-arm.arm-index c.arm-item.result c.loop-arm-test.true c.arm-item.is tested) ∙ c.loop-arm.invariant.left;
+      left = sym (choosing_on scene c.as_slice-arm-items.result.now c.args.otherwise.now c.args.vars.now c.loop-arm.arm-index c.arm-item.result c.loop-arm-test.true c.arm-item.is tested) ∙ c.loop-arm.invariant.left;
     }
 
-pub render_node-returns-after-loop-arm-clause-page : goal.render_node-returns-after-loop-arm-clause-page
-render_node-returns-after-loop-arm-clause-page g t c =
+pub render_if-returns-clause-page : goal.render_if-returns-clause-page
+render_if-returns-clause-page g t c =
     let variables = c.args.vars.now in
+    let otherwise = c.args.otherwise.now in
     let scene = scene_of c.args.context.now (g.R.Rows.table c.args.rows.now) in
-    let same : direct scene c.in-If.otherwise variables ≡ written scene c.args.node.now variables =
-    sym (ap (λ n. written scene n variables) c.in-If.is
-    ∙ written_if scene c.in-If.at c.in-If.arms c.in-If.otherwise variables
-    ∙ ap (λ arms. choosing scene arms c.in-If.otherwise variables) (sym c.as_slice-arm-items.ensures)
+    let same : direct scene otherwise variables ≡ if_writes scene c.args.arms.now otherwise variables =
+    sym (ap (λ arms. if_writes scene arms otherwise variables) (sym c.as_slice-arm-items.ensures)
     ∙ sym c.loop-arm.invariant.left
-    ∙ choosing_last scene c.as_slice-arm-items.result.now c.in-If.otherwise variables c.loop-arm.arm-index c.loop-arm-test.false) in
-    subst (λ p. OnOk c.render-in-If.result (c.render-in-If.new.out.items ≡ c.args.out.now.items ++ p)) same
-    (moved c.render-in-If.result c.render-in-If.new.out.items (scene_of c.args.context.now) c.loop-arm.invariant.table c.loop-arm.invariant.vars c.as_slice-in-If.ensures c.loop-arm.invariant.nothing c.render-in-If.ensures.page)
+    ∙ choosing_last scene c.as_slice-arm-items.result.now otherwise variables c.loop-arm.arm-index c.loop-arm-test.false) in
+    subst (λ p. OnOk c.render-2.result (c.render-2.new.out.items ≡ c.args.out.now.items ++ p)) same
+    (moved c.render-2.result c.render-2.new.out.items (scene_of c.args.context.now) c.loop-arm.invariant.table c.loop-arm.invariant.vars c.as_slice-2.ensures c.loop-arm.invariant.nothing c.render-2.ensures.page)
 
 -- ---- items
 

@@ -1,8 +1,9 @@
 use Rattle.std.proofs.Common.{◌≡◌, ◌+◌, ◌*◌, ◌++◌, ◌∷◌, [], take, drop}
 use Rattle.doll_erb.proofs.node.Node.TheLaws.{the_size}
-use Rattle.doll_plain.specs.Direct.{direct}
+use Rattle.doll_erb.specs.declared.node.Node as node
+use Rattle.doll_plain.specs.Direct.{direct, if_writes}
 use Rattle.doll_plain.specs.Pages.{scene_of}
-use Rattle.doll_plain.proofs.Choices.{choosing, for_records}
+use Rattle.doll_plain.proofs.Choices.{for_records}
 use Rattle.doll_plain.proofs.Depths.{left_of}
 use Rattle.doll_plain.proofs.render.+render.Given as goal
 use denote.Param.Weighed.{most}
@@ -19,13 +20,19 @@ abbrev pub decreases-render_collection : goal.decreases-render_collection
 decreases-render_collection g l = left_of l.context.now.levels l.context.now.set.now.templates 1
 
 abbrev pub decreases-render_node : goal.decreases-render_node
-decreases-render_node g l = left_of l.context.now.levels l.context.now.set.now.templates (4 * the_size l.node.now + 2)
+decreases-render_node g l = left_of l.context.now.levels l.context.now.set.now.templates (4 * the_size l.node.now + 3)
 
 abbrev pub decreases-render : goal.decreases-render
-decreases-render g l = left_of l.context.now.levels l.context.now.set.now.templates (4 * most the_size l.nodes.now + 3)
+decreases-render g l = left_of l.context.now.levels l.context.now.set.now.templates (4 * most the_size l.nodes.now + 4)
 
 abbrev pub decreases-render_each : goal.decreases-render_each
-decreases-render_each g l = left_of l.context.now.levels l.context.now.set.now.templates (4 * most the_size l.body.now + 4)
+decreases-render_each g l = left_of l.context.now.levels l.context.now.set.now.templates (4 * most the_size l.body.now + 5)
+
+abbrev pub decreases-render_if : goal.decreases-render_if
+decreases-render_if g l = left_of l.context.now.levels l.context.now.set.now.templates (4 * the_size (node.If 0 l.arms.now l.otherwise.now) + 2)
+
+abbrev pub decreases-render_tag : goal.decreases-render_tag
+decreases-render_tag g l = left_of l.context.now.levels l.context.now.set.now.templates 2
 
 -- ---- what is written so far
 
@@ -38,12 +45,12 @@ invariant-render-loop-node g l = record {
 }
 
 -- the arms so far don't hold, and nothing is written
-abbrev pub invariant-render_node-loop-arm : goal.invariant-render_node-loop-arm
-invariant-render_node-loop-arm g l = record {
+abbrev pub invariant-render_if-loop-arm : goal.invariant-render_if-loop-arm
+invariant-render_if-loop-arm g l = record {
   table : g.R.Rows.table l.rows ≡ g.R.Rows.table l.fn.rows;
   vars : l.vars ≡ l.fn.vars;
   nothing : l.out.items ≡ l.fn.out.items;
-  left : choosing (scene_of l.context (g.R.Rows.table l.fn.rows)) (drop l.arm-index l.arm-items) l.otherwise l.fn.vars ≡ choosing (scene_of l.context (g.R.Rows.table l.fn.rows)) l.arm-items l.otherwise l.fn.vars;
+  left : if_writes (scene_of l.context (g.R.Rows.table l.fn.rows)) (drop l.arm-index l.arm-items) l.otherwise l.fn.vars ≡ if_writes (scene_of l.context (g.R.Rows.table l.fn.rows)) l.arm-items l.otherwise l.fn.vars;
 }
 
 -- what the body writes for the records so far
