@@ -2,8 +2,10 @@ pub mod Ascending
 pub mod Beside
 pub mod Closed
 pub mod Counts
+pub mod Depending
 pub mod Entering
 pub mod Entries
+pub mod Kept
 pub mod Known
 pub mod Layered
 pub mod Linking
@@ -14,5 +16,6 @@ pub mod Placing
 pub mod Places
 pub mod Reading
 pub mod Setting
+pub mod Shallow
 pub mod Tags
 pub mod Weighing

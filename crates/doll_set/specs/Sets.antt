@@ -1,23 +1,28 @@
 -- The set of templates that files make, or the first refusal (this project's own).
-use Rattle.std.specs.Prelude.{◌≡◌, ℕ, ◌-◌, ◌^◌, min, nat_le, List, [], length, map, Option, None, Some, Result, Ok, Err, Vec, ⊤}
-use Rattle.std.specs.List.{AllByRecursion}
+use Rattle.std.specs.Prelude.{◌≡◌, ℕ, ◌-◌, ◌^◌, min, nat_le, List, [], length, map, slice_get, Option, None, Some, Result, Ok, Err, Vec, ⊤}
+use Rattle.std.specs.List.{AllByRecursion, Contains}
+use Rattle.std.specs.Option.{option_map_or}
 use Rattle.std.specs.declared.alloc.Global.{Global}
 use Rattle.doll_text.specs.Steps.{◌>>=◌, ◌>>◌, check}
 use Rattle.doll_base.specs.declared.in_memory.ViewFile.{ViewFile}
 use Rattle.doll_digest.specs.Registries.{Registered, names_in}
 use Rattle.doll_digest.specs.declared.registry.DigestFault.{DigestFault}
 use Rattle.doll_erb.specs.Trees.{tree_of}
-use Rattle.doll_graph.specs.Graphs.{Graph, cycle}
+use Rattle.doll_erb.specs.declared.node.Node.{Node}
+use Rattle.doll_graph.specs.Graphs.{Graph, cycle, dependencies}
 use Rattle.doll_set.specs.declared.dependencies.Links.{Links}
+use Rattle.doll_set.specs.declared.dependencies.PartialTag.{PartialTag}
 use Rattle.doll_set.specs.declared.fault.SetFault.{SetFault}
 use Rattle.doll_set.specs.declared.fault.SetFault.TheVariants as fault
 use Rattle.doll_set.specs.declared.limits.TheConstants.{MOST_VIEWS}
+use Rattle.doll_set.specs.declared.partials.TagPartial.{TagPartial}
 use Rattle.doll_set.specs.declared.template.Template.{Template}
-use Rattle.doll_set.specs.Dependencies.{all_links, graph_of, names_of}
+use Rattle.doll_set.specs.Dependencies.{all_links, graph_of, names_of, partial_of, tags_of}
 use Rattle.doll_set.specs.Digests.{name_at, digests_of, registered, too_deep}
 use Rattle.doll_set.specs.Faults.{set_fault}
 use Rattle.doll_set.specs.Files.{in_order, templates_from}
 use Rattle.doll_set.specs.Order.{Ascend}
+use Rattle.doll_set.specs.Partials.{all_partials}
 use Rattle.doll_set.specs.Weights.{node_counts, rendered_by, first_too_wide}
 
 -- a set that was read: its templates, what each depends on, and their digests
@@ -106,3 +111,16 @@ pub record IsSet (templates : List Template) (graph : Graph) (digests : List (Li
 -- the keys of a set are the names of templates, in the same order
 abbrev pub IsNamed : List (Vec ℕ Global) → List Template → Type 0
 IsNamed keys templates = names_in keys ≡ names_of templates
+
+-- and the partials of their tags are kept
+abbrev pub IsKept : List (Vec ℕ Global) → List (List TagPartial) → List Template → Type 0
+IsKept keys partials templates = IsNamed keys templates × (partials ≡ all_partials templates)
+
+-- the tree of the template with a number, nothing where there is none
+abbrev pub tree_at : List Template → ℕ → List Node
+tree_at templates number = option_map_or (λ (t : Template). t.tree) (slice_get templates number) []
+
+-- in a set each partial that a tag of a template names is among what the template depends on
+abbrev pub TagsAreDependencies : Type 0
+TagsAreDependencies = (templates : List Template) (graph : Graph) (digests : List (List ℕ)) → IsSet templates graph digests → (number : ℕ) (tag : PartialTag) (d : ℕ)
+    → Contains (tags_of (tree_at templates number)) tag → partial_of (names_of templates) (name_at templates number) tag.name ≡ Some d → Contains (dependencies graph number) d

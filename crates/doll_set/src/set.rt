@@ -1,6 +1,6 @@
 //! The set of a site's templates.
 
-ghost use Rattle.std.specs.Prelude.{◌≡◌, ◌<◌, ◌^◌, None, length, map, option_copied, slice_get, IfOk, OnOk};
+ghost use Rattle.std.specs.Prelude.{◌≡◌, ◌<◌, ◌^◌, None, Some, length, map, option_copied, slice_get, IfOk, OnOk, IfSome};
 ghost use Rattle.doll_text.specs.Gives.{Gives};
 ghost use Rattle.doll_digest.specs.Registries.{NumbersStay, TextsStay, names_in};
 ghost use Rattle.doll_set.specs.Dependencies.{graph_of, names_of, number_of, partial_of};
@@ -15,6 +15,7 @@ use crate::digests::digests;
 use crate::fault::SetFault;
 use crate::files::{in_order, templates_of};
 use crate::limits::{LONGEST_CHAIN, MOST_VIEWS};
+use crate::partials::{TagPartial, all_partials, place_of};
 use crate::template::Template;
 use crate::weights::first_too_wide;
 use doll_base::ViewFile;
@@ -32,12 +33,14 @@ pub struct TemplateSet {
     names: IndexSet<Vec<u8>>,
     graph: Items<Ids>,
     digests: Items<Digest>,
+    /// The partials that the tags of each template name.
+    partials: Items<Items<TagPartial>>,
 }
 
 impl Model for TemplateSet {
     ghost use Rattle.std.specs.Coded.{codes};
     ghost use Rattle.doll_erb.specs.contracts.node.Node as node;
-    ghost use Rattle.doll_set.specs.Sets.{ReadSet, IsSet, IsNamed};
+    ghost use Rattle.doll_set.specs.Sets.{ReadSet, IsSet, IsKept};
 
     ghost Value = { ReadSet };
 
@@ -45,7 +48,8 @@ impl Model for TemplateSet {
 
     ghost view = { λ s. record { templates = s.templates; graph = s.graph; digests = s.digests } };
 
-    ghost invariant = { λ s. IsSet s.templates s.graph s.digests × IsNamed s.names.keys s.templates };
+    ghost invariant = { λ s. IsSet s.templates s.graph s.digests
+        × IsKept s.names.keys s.partials s.templates };
 }
 
 impl TemplateSet {
@@ -64,12 +68,14 @@ impl TemplateSet {
         let templates = read_templates(alloc, files)?;
         let names = names_of(alloc, templates.as_slice())?;
         let graph = linked(alloc, &names, templates.as_slice())?;
+        let partials = all_partials(alloc, &names, templates.as_slice())?;
         let digests = digests(alloc, templates.as_slice(), graph.as_slice(), registry)?;
         Ok(TemplateSet {
             templates,
             names,
             graph,
             digests,
+            partials,
         })
     }
 
@@ -127,8 +133,29 @@ impl TemplateSet {
         ensures { IfOk result (λ partial. partial
             ≡ partial_of (names_of self.now.templates) (name_at self.now.templates number) name.now) }
     {
-        let _ = at;
+        if let Some(partial) = self.partial_kept(number, at, name) {
+            return Ok(Some(partial));
+        }
         self.partial_of(alloc, self.name_of(number), name)
+    }
+
+    /// The number of that partial where the tag is kept under this name.
+    fn partial_kept(&self, number: usize, at: u32, name: &[u8]) -> Option<usize>
+        ensures { IfSome result (λ partial. partial_of (names_of self.now.templates)
+            (name_at self.now.templates number) name.now ≡ Some partial) }
+    {
+        let Some(partials) = self.partials.as_slice().get(number) else {
+            return None;
+        };
+        let partials = partials.as_slice();
+        let Some(place) = place_of(partials, at) else {
+            return None;
+        };
+        let partial = &partials[place];
+        if partial.name.as_bytes() != name {
+            return None;
+        }
+        Some(partial.number)
     }
 
     /// The name of the template with a number, nothing where there is none.
@@ -141,6 +168,11 @@ impl TemplateSet {
         }
     }
 }
+
+/// In a set each partial that a tag of a template names is among what the template depends on.
+pub fn tags_are_dependencies()
+    ensures { spec.TagsAreDependencies }
+{}
 
 /// The templates of files, ascending by their names.
 fn read_templates(alloc: Global, files: &[ViewFile]) -> Result<Items<Template>, SetFault>
