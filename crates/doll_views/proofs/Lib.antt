@@ -1,0 +1,5 @@
+pub mod Founds
+pub mod Givens
+pub mod Jsons
+pub mod Readings
+pub mod Texts

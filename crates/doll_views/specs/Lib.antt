@@ -1,0 +1,10 @@
+pub mod Bundles
+pub mod Digests
+pub mod Faults
+pub mod Files
+pub mod Forms
+pub mod Missing
+pub mod Refusals
+pub mod Seen
+pub mod Sets
+pub mod Views
