@@ -1,7 +1,3 @@
-pub mod Digits
-pub mod Jsons
+pub mod ClockReadings
 pub mod Keeping
 pub mod Made
-pub mod Members
-pub mod ClockReadings
-pub mod Views

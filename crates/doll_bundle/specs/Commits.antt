@@ -17,11 +17,11 @@ use Rattle.doll_records.specs.declared.fault.RecordFault.TheVariants as fault
 use Rattle.doll_records.specs.Commitments.{asked, committed}
 use Rattle.doll_records.specs.Histories.{table_of}
 use Rattle.doll_bundle.specs.declared.commits.Asked.{Asked}
-use Rattle.doll_bundle.specs.declared.refusal.BundlePart.TheVariants as part
-use Rattle.doll_bundle.specs.declared.refusal.Kind.{Kind}
-use Rattle.doll_bundle.specs.declared.refusal.Kind.TheVariants as kind
-use Rattle.doll_bundle.specs.declared.refusal.Refusal.{Refusal}
-use Rattle.doll_bundle.specs.declared.refusal.Refusal.TheVariants.{NotBuilt, Refused}
+use Rattle.doll_views.specs.Bundles.{commit_refusal}
+use Rattle.doll_views.specs.declared.refusal.Kind.{Kind}
+use Rattle.doll_views.specs.declared.refusal.Kind.TheVariants as kind
+use Rattle.doll_views.specs.declared.refusal.Refusal.{Refusal}
+use Rattle.doll_views.specs.declared.refusal.Refusal.TheVariants.{NotBuilt}
 
 -- ---- what a commit of a bundle asks for
 
@@ -68,9 +68,6 @@ why_kind why.BadParent = kind.BadParent
 why_kind why.Restricted = kind.Restricted
 why_kind why.IdsEnded = kind.IdsEnded
 why_kind why.TooManyChanges = kind.TooManyChanges
-
-abbrev pub commit_refusal : ℕ → Kind → Refusal
-commit_refusal number what = Refused part.Commits number what
 
 -- why a commit isn't recorded, as the bundle's
 abbrev pub fault_refusal : ℕ → RecordFault → Refusal

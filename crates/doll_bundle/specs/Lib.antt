@@ -1,9 +1,3 @@
-pub mod Bundles
 pub mod Commits
-pub mod Forms
-pub mod Pages
-pub mod Paths
 pub mod Readings
-pub mod Refusals
-pub mod Seen
 pub mod Sites

@@ -5,11 +5,10 @@ ghost use Rattle.serde_json.specs.View.{items_view, view};
 ghost use Rattle.doll_text.specs.Gives.{Gives};
 ghost use Rattle.doll_keep.specs.Calls.{IsFaultless};
 ghost use Rattle.doll_table.specs.Fits.{Fits};
-ghost use Rattle.doll_bundle.specs.Commits.{is_untimed, time_in, asked_in, untimed, why_kind, commit_refusal, recorded, commit_result, next_reading, readings_behind, commits_from, all_recorded};
+ghost use Rattle.doll_bundle.specs.Commits.{is_untimed, time_in, asked_in, untimed, why_kind, recorded, commit_result, next_reading, readings_behind, commits_from, all_recorded};
 ghost use Rattle.doll_journal.specs.Storable.{AreStorable};
 ghost use Rattle.doll_bundle.specs.Commits.{GivesHistory};
 
-use crate::refusal::{BundlePart, Kind, Refusal};
 use doll_commit::Why;
 use doll_journal::{Changes, changes_of};
 use doll_keep::MemKeeper;
@@ -17,6 +16,7 @@ use doll_records::{OpenFault, RecordFault, Records, SharedTable};
 use doll_schema::Schema;
 use doll_schema::json::{has_only, whole_at};
 use doll_text::{Copied, Memory};
+use doll_views::{Kind, Refusal, commit_refusal};
 use serde_json::Value;
 use std::alloc::Global;
 
@@ -28,16 +28,6 @@ const AUTHOR: u32 = 0;
 struct Asked {
     time: Option<u64>,
     changes: Changes,
-}
-
-pub fn commit_refusal(number: u64, kind: Kind) -> Refusal
-    ensures { result ≡ commit_refusal number kind }
-{
-    Refusal::Refused {
-        part: BundlePart::Commits,
-        number,
-        kind,
-    }
 }
 
 /// A refused change's reason as the bundle's.

@@ -1,20 +1,13 @@
-//! A site's bundle: its form, its pages, its commits, the site that they make, and why a bundle is refused.
+//! The site of a bundle whose files are read: the history that its commits make, and its pages.
 //!
-//! A bundle becomes a site in three steps: `Bundle::read` is pure, `read_clock` asks the clock as often as the bundle needs, and
-//! `Site::of` makes the commits.
+//! `read_clock` asks the clock as often as the bundle needs, `Site::of` makes the commits, `Site::page` renders over the records
+//! that they leave.
 #![tactic(auto)]
 
-pub mod bundle;
-mod commits;
-mod form;
-mod pages;
-mod path;
+pub mod commits;
 mod readings;
-pub mod refusal;
 pub mod site;
 
-pub use bundle::{Bundle, json_of};
-pub use pages::Pages;
+pub use commits::untimed;
 pub use readings::read_clock;
-pub use refusal::{BundlePart, Kind, Refusal, refusal_line};
 pub use site::Site;

@@ -1,85 +1,74 @@
-//! A site: the pages of a bundle, over the records that its commits leave.
+//! A site: the routes and templates of a bundle, over the records that its commits leave.
 
-ghost use Rattle.std.specs.Prelude.{◌≡◌, true, IfOk, IsSome};
+ghost use Rattle.std.specs.Prelude.{◌≡◌, IfOk};
 ghost use Rattle.doll_text.specs.Gives.{Gives};
-ghost use Rattle.doll_table.specs.Fits.{Fits};
-ghost use Rattle.doll_table.specs.Tables.{row_of};
-ghost use Rattle.doll_plain.specs.Standing.{tree_alone};
-ghost use Rattle.doll_bundle.specs.Bundles.{site_of};
-ghost use Rattle.doll_bundle.specs.Seen.{seen_bundle};
-ghost use Rattle.doll_bundle.specs.Sites.{IsServed, living, page_of, page_at};
+ghost use Rattle.doll_route.specs.Routes.{AreRoutesOf, IsFoundIn};
+ghost use Rattle.doll_views.specs.Seen.{seen_loaded};
+ghost use Rattle.doll_bundle.specs.Sites.{IsServed, found_page, page_at, site_of};
 
-use crate::bundle::Bundle;
 use crate::commits::table_after;
-use crate::pages::Pages;
-use crate::path::requested_id;
-use crate::refusal::Refusal;
-use doll_plain::page;
+use doll_plain::plain_page;
 use doll_records::SharedTable;
-use doll_schema::{Val, Vars};
-use doll_table::Looking;
-use doll_text::{Bytes, Copied, Items, Memory};
+use doll_route::{Found, Routes, split_target};
+use doll_schema::Schema;
+use doll_set::TemplateSet;
+use doll_text::{Bytes, Memory};
+use doll_views::{Loaded, Refusal};
 use std::alloc::Global;
 
-/// A site: its pages and its records.
+/// A site: its schema, its routes, its templates and its records.
 #[derive(Drop)]
 pub struct Site {
-    pub pages: Pages,
+    pub schema: Schema,
+    pub routes: Routes,
+    pub set: TemplateSet,
     pub table: SharedTable,
 }
 
 impl Site {
     /// The site of a bundle whose commits are made one after another, each that says no time at the next of these readings. The
     /// first commit that is refused refuses the bundle.
-    pub fn of(alloc: Global, bundle: Bundle<'_>, readings: &[u64]) -> Result<Site, Refusal>
-        requires { tree_alone bundle.pages.tree ≡ true }
-        ensures exact { Gives Refusal.Memory (site_of (seen_bundle bundle.entry) readings.now) result }
+    pub fn of(alloc: Global, loaded: Loaded<'_>, readings: &[u64]) -> Result<Site, Refusal>
+        requires { AreRoutesOf loaded.schema loaded.routes }
+        ensures exact { Gives Refusal.Memory (site_of (seen_loaded loaded.entry) readings.now) result }
         ensures served { IfOk result IsServed }
     {
-        let table = table_after(alloc, &bundle.pages.schema, readings, bundle.commits)?;
+        let table = table_after(alloc, &loaded.schema, readings, loaded.commits)?;
         Ok(Site {
-            pages: bundle.pages,
+            schema: loaded.schema,
+            routes: loaded.routes,
+            set: loaded.set,
             table,
         })
     }
 
-    /// The page of a path, with no cache; none where no route has the path or the record isn't there.
-    pub fn page(&self, alloc: Global, path: &[u8]) -> Result<Option<Bytes>, Memory>
+    /// The page of a request's target, with no cache; none where no route has its path or the route's record isn't there.
+    pub fn page(&self, alloc: Global, target: &str) -> Result<Option<Bytes>, Memory>
         requires { IsServed self.now }
-        ensures { IfOk result (λ page. page ≡ page_at self.now path.now) }
+        ensures { IfOk result (λ page. page ≡ page_at self.now target.now) }
     {
-        match self.living(requested_id(self.pages.path.as_bytes(), path)) {
-            Some(id) => Ok(Some(self.page_of(alloc, id)?)),
+        let (path, query) = split_target(target);
+        match self.routes.find(path)? {
+            Some(found) => self.found_page(alloc, query, &found),
             None => Ok(None),
         }
     }
 
-    /// The record that a request names, where it lives.
-    fn living(&self, id: Option<u32>) -> Option<u32>
-        ensures { result ≡ living self.now id }
-    {
-        let id = id?;
-        if self.table.get().row(self.pages.model, id).is_some() {
-            Some(id)
-        } else {
-            None
-        }
-    }
-
-    /// The page of a record that lives.
-    fn page_of(&self, alloc: Global, id: u32) -> Result<Bytes, Memory>
+    /// The page of a route that was found.
+    fn found_page(&self, alloc: Global, query: &str, found: &Found) -> Result<Option<Bytes>, Memory>
         requires served { IsServed self.now }
-        requires lives { IsSome (row_of self.now.table self.now.pages.model id) }
-        ensures { IfOk result (λ bytes. bytes ≡ page_of self.now id) }
+        requires found { IsFoundIn self.now.routes found.now }
+        ensures { IfOk result (λ page. page ≡ found_page self.now query.now found.now) }
     {
-        let pages = &self.pages;
-        let mut vars: Vars = Items::new(alloc);
-        let record = Val::Record {
-            model: pages.model,
-            id,
-        };
-        vars.push((pages.owner.copy(alloc)?, record))?;
-        let mut rows = Looking::new(self.table.get());
-        page(alloc, &pages.tree, vars, &pages.schema, &mut rows)
+        let params = self.routes.params(alloc, found.route, query)?;
+        plain_page(
+            alloc,
+            &self.set,
+            &self.schema,
+            &self.routes,
+            found,
+            &params,
+            self.table.get(),
+        )
     }
 }
