@@ -9,6 +9,12 @@ mod calls;
 #[cfg(test)]
 mod faults;
 #[cfg(test)]
+mod files;
+#[cfg(test)]
 mod limits;
 #[cfg(test)]
 mod pages;
+#[cfg(test)]
+mod sites;
+#[cfg(test)]
+mod tables;

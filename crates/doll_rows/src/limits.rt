@@ -1,8 +1,10 @@
 //! What stands at a limit is read and made, which no clause says, since want of memory excuses all; what is past it isn't.
 
 use crate::answer::answer;
-use doll_bundle::json_of;
-use doll_text::Bytes;
+use crate::files::{file, home};
+use doll_base::MemFolder;
+use doll_text::{Bytes, Memory};
+use doll_views::json_of;
 use std::alloc::{AllocError, Global};
 use std::process::Abort;
 use std::test::Fail;
@@ -38,6 +40,12 @@ const GIVEN: &str = r#"{"changes":[{"create":"product","values":{VALUES}}]}"#;
 
 const NAMED: &str =
     r#"{"changes":[{"create":"product","values":{"name":"TEXT"}},{"create":"game","values":{"product_id":1}}]}"#;
+
+/// A view, and the template of the path `/` in a folder.
+const FILE: &str = r#""views":{"a.html.erb":""},"files":["home.html.erb"]"#;
+
+/// Views that begin with the template of the path `/`, which renders the next.
+const CHAIN: &str = r#""views":{"home.html.erb":"<%= render \"p0\" %>","#;
 
 /// A text so many times with commas between, with the number of each in place of a word.
 fn repeated(alloc: Global, count: usize, text: &str) -> Result<String, AllocError> {
@@ -83,7 +91,10 @@ fn family(alloc: Global, count: usize, then: &str) -> Result<String, AllocError>
 /// The answer of a bundle that is read from a text.
 fn answer_of(alloc: Global, bundle: &str, path: &str) -> Option<Bytes> {
     match json_of(alloc, bundle.as_bytes()) {
-        Ok(Some(json)) => answer(alloc, &json, path).ok(),
+        Ok(Some(json)) => {
+            let folder = MemFolder::new(Vec::new(alloc), Vec::new(alloc));
+            answer(alloc, &json, folder, path).ok()
+        }
         _ => None,
     }
 }
@@ -156,4 +167,63 @@ fn a_value_may_have_a_million_bytes(rt: HostRuntime) -> Result<(), Fail> {
     check(&rt, SHOP, most.as_str(), "/games/1", page.as_str())?;
     let more = named(alloc, long(alloc, 20, "x")?.as_str())?;
     check(&rt, SHOP, more.as_str(), "/", "bundle commits 0: BadForm")
+}
+
+/// A folder with a file of this source.
+fn folder_of(alloc: Global, source: &str) -> Result<MemFolder, Memory> {
+    let mut files = Vec::new(alloc);
+    files.push(file(alloc, "home.html.erb", source.as_bytes())?)?;
+    Ok(MemFolder::new(files, Vec::new(alloc)))
+}
+
+/// Sees that a site whose template is in a folder answers so, where the template has so many bytes.
+fn check_file(
+    rt: &(impl Abort + AllocGlobal),
+    power: usize,
+    more: &str,
+    wanted: &str,
+) -> Result<(), Fail> {
+    let alloc = rt.alloc();
+    let folder = folder_of(alloc, long(alloc, power, more)?.as_str())
+        .ok()
+        .ok_or("no memory")?;
+    let found = home(alloc, FILE, folder)?;
+    assert!(rt; found.as_slice() == wanted.as_bytes(), "of {more}");
+    Ok(())
+}
+
+#[test]
+fn a_file_may_have_a_quarter_of_a_million_bytes(rt: HostRuntime) -> Result<(), Fail> {
+    let page = long(rt.alloc(), 18, "")?;
+    check_file(&rt, 18, "", page.as_str())?;
+    check_file(&rt, 18, "x", "bundle views 1: TooLong")?;
+    check_file(&rt, 24, "x", "too long")
+}
+
+/// Templates that render one another in a chain, so many between the first and the last.
+fn chain(alloc: Global, count: u32) -> Result<String, AllocError> {
+    let mut text = String::from_str(alloc, CHAIN)?;
+    for index in 0..count {
+        let next = index + 1;
+        let link = format!(in alloc; "\"_p{index}.html.erb\":\"<%= render \\\"p{next}\\\" %>\",")?;
+        text.push_str(link.as_str())?;
+    }
+    let last = format!(in alloc; "\"_p{count}.html.erb\":\"x\"}}")?;
+    text.push_str(last.as_str())?;
+    Ok(text)
+}
+
+/// Sees that a site with so many templates in a chain between the first and the last answers so.
+fn check_chain(rt: &(impl Abort + AllocGlobal), count: u32, wanted: &str) -> Result<(), Fail> {
+    let alloc = rt.alloc();
+    let folder = MemFolder::new(Vec::new(alloc), Vec::new(alloc));
+    let found = home(alloc, chain(alloc, count)?.as_str(), folder)?;
+    assert!(rt; found.as_slice() == wanted.as_bytes(), "of {count}");
+    Ok(())
+}
+
+#[test]
+fn a_chain_may_have_16_templates(rt: HostRuntime) -> Result<(), Fail> {
+    check_chain(&rt, 14, "x")?;
+    check_chain(&rt, 15, "bundle views 16: DepthOver")
 }

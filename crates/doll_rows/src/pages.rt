@@ -1,41 +1,7 @@
-//! Pages and refusals of bundles, worked by hand.
+//! Pages and refusals of bundles with one template, worked by hand.
 
-use crate::answer::answer;
-use doll_bundle::json_of;
-use serde_json::Value;
-use std::alloc::Global;
-use std::process::Abort;
+use crate::tables::{check, check_rows, json, rows, text_in};
 use std::test::Fail;
-
-/// What stands in the bundles below in place of a word: models, and routes to them.
-const WORDS: [(&str, &str); 6] = [
-    (
-        "PRODUCT",
-        r#"{"models":[{"name":"product","plural":"products","attributes":[{"name":"name","kind":"text"}]}]}"#,
-    ),
-    // Products with games, which go with their product, and with notes, which keep it.
-    (
-        "SHOP",
-        r#"{"models":[{"name":"product","plural":"products","attributes":[{"name":"name","kind":"text"}],"has_many":[{"name":"games","model":"game","inverse":"product","dependent":"destroy"},{"name":"notes","model":"note","inverse":"product","dependent":"restrict"}]},{"name":"game","plural":"games","attributes":[{"name":"name","kind":"text"}],"belongs_to":[{"name":"product","model":"product","touch":true}]},{"name":"note","plural":"notes","attributes":[],"belongs_to":[{"name":"product","model":"product"}]}]}"#,
-    ),
-    // Comments on comments.
-    (
-        "FORUM",
-        r#"{"models":[{"name":"comment","plural":"comments","attributes":[{"name":"body","kind":"text"}],"belongs_to":[{"name":"parent","model":"comment","touch":true,"null":true}],"has_many":[{"name":"replies","model":"comment","inverse":"parent"}]}]}"#,
-    ),
-    (
-        "TO_PRODUCTS",
-        r#"[{"path":"/products/:id","template":"thing","record":"product"}]"#,
-    ),
-    (
-        "TO_GAMES",
-        r#"[{"path":"/games/:id","template":"thing","record":"game"}]"#,
-    ),
-    (
-        "TO_COMMENTS",
-        r#"[{"path":"/comments/:id","template":"thing","record":"comment"}]"#,
-    ),
-];
 
 /// A JSON array of bundles, each with a path and the answer.
 const BUNDLES: &str = r##"[
@@ -54,9 +20,10 @@ const BUNDLES: &str = r##"[
 [{"schema":PRODUCT,"routes":[{"path":"/a/b_1/:id","template":"a/b/c/d/e/f/g/_h","record":"product"}],"views":{"a/b/c/d/e/f/g/_h.html.erb":"h"},"commits":[{"changes":[{"create":"product","values":{}}]}]},"/a/b_1/1","h"],
 [{"schema":PRODUCT,"routes":TO_GAMES,"views":{"thing.html.erb":""}},"/","bundle routes 0: UnknownModel"],
 [{"schema":PRODUCT,"routes":TO_PRODUCTS,"views":{"thing.html.erb":7}},"/","bundle views 0: BadForm"],
-[{"schema":PRODUCT,"routes":[],"views":{"thing.html.erb":""}},"/","not built"],
-[{"schema":PRODUCT,"routes":TO_PRODUCTS,"views":{"thing.html.erb":"","other.html.erb":""}},"/","not built"],
+[{"schema":PRODUCT,"routes":[],"views":{"thing.html.erb":""}},"/","unknown"],
+[{"schema":PRODUCT,"routes":TO_PRODUCTS,"views":{"thing.html.erb":"","other.html.erb":""}},"/","unknown"],
 [{"schema":PRODUCT,"routes":TO_PRODUCTS,"views":{"thing.html.erb":""},"commits":[],"settings":{}},"/","not built"],
+[{"schema":PRODUCT,"routes":7,"script":[]},"/","not built"],
 [{"schema":PRODUCT,"routes":TO_PRODUCTS,"views":{"thing.html.erb":""},"commits":null},"/","bundle commits 0: BadForm"],
 [{"schema":PRODUCT,"routes":TO_PRODUCTS,"views":{"thing.html.erb":""},"commits":[{"at":1,"changes":[]},{"at":"2","changes":[]}]},"/","bundle commits 1: BadForm"],
 [{"schema":PRODUCT,"routes":TO_PRODUCTS,"views":{"thing.html.erb":""},"commits":[{"at":10,"changes":[{"create":"product","values":{"name":"A"}}]},{"at":11,"changes":[{"create":"product","values":{"name":1}}]}]},"/","bundle commits 1: WrongKind"],
@@ -118,9 +85,9 @@ const TEMPLATES: &str = r##"[
 ["<%= 1 -%>\n\n<%== 2 %><% if 1 -%>\r\n\r\n<% end %><%= 1 -%>\r3", "1\n2\r\n1\r3"],
 ["a<%# c %>b%><%#-%>\n\n<%%>%><% - 1.each do |x| %><% end %>", "ab%>\n<%>%>"],
 ["a<%# Template Dependency:  b %>", "a"],
-["<%#Template Dependency: a%>", "not built"],
-["<% if nil %><%= render \"games/game\", a: 1, @b: c.d %><% end %>", "not built"],
-["<%= render partial: \"a/each\", collection: c, as: :@d, cached: true %>", "not built"],
+["<%#Template Dependency: a%>", "bundle views 0: MissingPartial"],
+["<% if nil %><%= render \"games/game\", a: 1, @b: c.d %><% end %>", "bundle views 0: MissingPartial"],
+["<%= render partial: \"a/each\", collection: c, as: :@d, cached: true %>", "bundle views 0: MissingPartial"],
 ["<%= 1", "bundle views 0: BadTemplate"],
 ["<%- 1 %>", "bundle views 0: BadTemplate"],
 ["x<% end %>", "bundle views 0: BadTemplate"],
@@ -133,58 +100,14 @@ const TEMPLATES: &str = r##"[
 ["<%= render partial: \"a/each\", collection: c %>", "bundle views 0: BadTemplate"]
 ]"##;
 
-/// A text with the words in it replaced.
-fn spelled_out(alloc: Global, text: &str) -> Result<String, Fail> {
-    let mut text = String::from_str(alloc, text)?;
-    for (word, meaning) in &WORDS {
-        let word = format!(in alloc; ":{word},")?;
-        let meaning = format!(in alloc; ":{meaning},")?;
-        text = text
-            .as_str()
-            .replace(alloc, word.as_str(), meaning.as_str())?;
-    }
-    Ok(text)
-}
-
-/// The rows of a table in JSON.
-fn rows(table: &Value) -> Result<&[Value], Fail> {
-    let rows = table.as_array().ok_or("no table")?;
-    Ok(rows.as_slice())
-}
-
-/// The text at a place of a row.
-fn text_in(row: &Value, at: usize) -> Result<&str, Fail> {
-    let text = row.get(at).ok_or("a short row")?;
-    Ok(text.as_str().ok_or("no text")?)
-}
-
-/// The JSON value that a text is.
-fn json(alloc: Global, text: &str) -> Result<Value, Fail> {
-    let json = json_of(alloc, text.as_bytes()).ok().ok_or("no memory")?;
-    Ok(json.ok_or("no JSON")?)
-}
-
-/// Sees that a bundle answers so.
-fn check(
-    rt: &(impl Abort + AllocGlobal),
-    bundle: &Value,
-    path: &str,
-    wanted: &str,
-) -> Result<(), Fail> {
-    let found = answer(rt.alloc(), bundle, path).ok().ok_or("no memory")?;
-    assert_eq!(rt; found.as_slice(), wanted.as_bytes(), "in place of {wanted}");
-    Ok(())
+#[test]
+fn bundles_answer_as_worked_by_hand(rt: HostRuntime) -> Result<(), Fail> {
+    check_rows(&rt, BUNDLES)
 }
 
 #[test]
-fn bundles_answer_as_worked_by_hand(rt: HostRuntime) -> Result<(), Fail> {
+fn templates_give_pages_worked_by_hand(rt: HostRuntime) -> Result<(), Fail> {
     let alloc = rt.alloc();
-    let text = spelled_out(alloc, BUNDLES)?;
-    let table = json(alloc, text.as_str())?;
-    for row in rows(&table)? {
-        let bundle = row.get(0).ok_or("no bundle")?;
-        check(&rt, bundle, text_in(row, 1)?, text_in(row, 2)?)?;
-    }
     let table = json(alloc, TEMPLATES)?;
     for row in rows(&table)? {
         let template = row.get(0).ok_or("no template")?.to_string(alloc)?;
