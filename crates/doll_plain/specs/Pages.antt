@@ -1,25 +1,21 @@
 -- Direct rendering of the templates of a set and of the page of a route (this project's own).
-use Rattle.std.specs.Prelude.{ℕ, List, [], Option, None, Some, option_and_then, slice_get, if◌then◌else◌}
+use Rattle.std.specs.Prelude.{◌≡◌, ◌+◌, ℕ, List, [], Option, None, Some, option_and_then, slice_get, if◌then◌else◌}
 use Rattle.std.specs.Option.{option_map_or}
 use Rattle.doll_schema.specs.Models.{ModelList}
 use Rattle.doll_schema.specs.declared.value.Value.{Value}
-use Rattle.doll_erb.specs.declared.node.Node.{Node}
 use Rattle.doll_table.specs.Tables.{TableMap}
+use Rattle.doll_graph.specs.Graphs.{Graph}
 use Rattle.doll_graph.specs.Levels.{by_levels}
 use Rattle.doll_set.specs.Dependencies.{names_of, number_of, partial_of}
 use Rattle.doll_set.specs.Digests.{name_at}
-use Rattle.doll_set.specs.Sets.{ReadSet}
+use Rattle.doll_set.specs.Sets.{IsSet, ReadSet, tree_at}
 use Rattle.doll_set.specs.declared.limits.TheConstants.{LONGEST_CHAIN}
 use Rattle.doll_set.specs.declared.template.Template.{Template}
 use Rattle.doll_route.specs.declared.route.Found.{Found}
 use Rattle.doll_route.specs.declared.route.Route.{Route}
 use Rattle.doll_plain.specs.declared.render.Context.{Context}
-use Rattle.doll_plain.specs.Direct.{Scene, Writes, direct}
+use Rattle.doll_plain.specs.Direct.{Scene, Variables, Writes, direct}
 use Rattle.doll_plain.specs.Variables.{is_there, route_variables}
-
--- the tree of the template with a number, nothing where there is none
-abbrev pub tree_at : List Template → ℕ → List Node
-tree_at templates number = option_map_or (λ (t : Template). t.tree) (slice_get templates number) []
 
 -- ---- partials
 
@@ -42,6 +38,11 @@ levels_write schema table templates levels number =
 -- what a template writes: no chain of partials has more levels
 abbrev pub template_writes : ModelList → TableMap → List Template → ℕ → Writes
 template_writes schema table templates number = levels_write schema table templates LONGEST_CHAIN number
+
+-- in a set more levels than the longest chain has change nothing
+abbrev pub MoreLevelsChangeNothing : Type 0
+MoreLevelsChangeNothing = (schema : ModelList) (table : TableMap) (templates : List Template) (graph : Graph) (digests : List (List ℕ)) → IsSet templates graph digests
+    → (more number : ℕ) (variables : Variables) → levels_write schema table templates (LONGEST_CHAIN + more) number variables ≡ template_writes schema table templates number variables
 
 -- what the code's context stands for over a table
 abbrev pub scene_of : Context → TableMap → Scene

@@ -76,9 +76,9 @@ pub fn bind(alloc: Global, name: &Name, model: u16, id: u32, vars: &mut Vars) ->
 pub fn one_var(alloc: Global, name: &Name, model: u16, id: u32) -> Result<Vars, Memory>
     ensures { IfOk result (λ own. own ≡ (name.now, Val.Record model id) ∷ []) }
 {
-    let mut own: Vars = Items::new(alloc);
-    bind(alloc, name, model, id, &mut own)?;
-    Ok(own)
+    let mut alone: Vars = Items::new(alloc);
+    bind(alloc, name, model, id, &mut alone)?;
+    Ok(alone)
 }
 
 /// The variables of a partial, each with the value of its expression.

@@ -6,4 +6,4 @@ mod page;
 mod render;
 mod variables;
 
-pub use page::plain_page;
+pub use page::{more_levels_change_nothing, plain_page};

@@ -3,7 +3,7 @@
 ghost use Rattle.std.specs.Prelude.{◌≡◌, IfOk};
 ghost use Rattle.doll_table.specs.Fits.{Fits};
 ghost use Rattle.doll_eval.specs.Living.{AreLiving};
-ghost use Rattle.doll_plain.specs.Pages.{named_writes, page_of};
+ghost use Rattle.doll_plain.specs.Pages.{MoreLevelsChangeNothing, named_writes, page_of};
 
 use crate::render::render_template;
 use crate::variables::{is_there, route_variables};
@@ -40,6 +40,11 @@ pub fn plain_page(
     let page = named_page(alloc, set, schema, table, route.template.as_bytes(), vars)?;
     Ok(Some(page))
 }
+
+/// What a template of a set writes is the same by any number of levels of partials from the most templates of a chain on.
+pub fn more_levels_change_nothing()
+    ensures { MoreLevelsChangeNothing }
+{}
 
 /// What the template with a name writes.
 fn named_page(
