@@ -41,8 +41,9 @@ template_writes schema table templates number = levels_write schema table templa
 
 -- in a set more levels than the longest chain has change nothing
 abbrev pub MoreLevelsChangeNothing : Type 0
-MoreLevelsChangeNothing = (schema : ModelList) (table : TableMap) (templates : List Template) (graph : Graph) (digests : List (List ℕ)) → IsSet templates graph digests
-    → (more number : ℕ) (variables : Variables) → levels_write schema table templates (LONGEST_CHAIN + more) number variables ≡ template_writes schema table templates number variables
+MoreLevelsChangeNothing = (schema : ModelList) (table : TableMap) (templates : List Template) (graph : Graph) (digests : List (List ℕ))
+    → IsSet templates graph digests → (more number : ℕ) (variables : Variables)
+    → levels_write schema table templates (LONGEST_CHAIN + more) number variables ≡ template_writes schema table templates number variables
 
 -- what the code's context stands for over a table
 abbrev pub scene_of : Context → TableMap → Scene

@@ -122,5 +122,6 @@ tree_at templates number = option_map_or (λ (t : Template). t.tree) (slice_get 
 
 -- in a set each partial that a tag of a template names is among what the template depends on
 abbrev pub TagsAreDependencies : Type 0
-TagsAreDependencies = (templates : List Template) (graph : Graph) (digests : List (List ℕ)) → IsSet templates graph digests → (number : ℕ) (tag : PartialTag) (d : ℕ)
-    → Contains (tags_of (tree_at templates number)) tag → partial_of (names_of templates) (name_at templates number) tag.name ≡ Some d → Contains (dependencies graph number) d
+TagsAreDependencies = (templates : List Template) (graph : Graph) (digests : List (List ℕ)) → IsSet templates graph digests
+    → (number : ℕ) (tag : PartialTag) (d : ℕ) → Contains (tags_of (tree_at templates number)) tag
+    → partial_of (names_of templates) (name_at templates number) tag.name ≡ Some d → Contains (dependencies graph number) d
