@@ -18,6 +18,9 @@ const FILES: [(&str, &[u8]); 4] = [
 /// A number that no call of the folder has.
 const NONE: u64 = 0xffff_ffff_ffff_ffff;
 
+/// What a bundle says before its files.
+const BEFORE: &str = r#"{"schema":{"models":[]},"routes":[{"path":"/","template":"home"}],"#;
+
 /// What a bundle says of its files, the number of the call of the folder that fails, and the answer to the path `/`.
 const ROWS: [(&str, u64, &str); 18] = [
     (r#""files":["home.html.erb"]"#, NONE, "home"),
@@ -115,9 +118,7 @@ fn folder(alloc: Global, failing: u64) -> Result<MemFolder, Memory> {
 
 /// The answer of a bundle that says this of its files to the path `/`.
 pub fn home(alloc: Global, says: &str, folder: MemFolder) -> Result<Bytes, Fail> {
-    let text = format!(in alloc;
-        "{{\"schema\":{{\"models\":[]}},\"routes\":[{{\"path\":\"/\",\"template\":\"home\"}}],{says}}}"
-    )?;
+    let text = format!(in alloc; "{BEFORE}{says}}}")?;
     let bundle = json(alloc, text.as_str())?;
     Ok(answer(alloc, &bundle, folder, "/").ok().ok_or("no memory")?)
 }
