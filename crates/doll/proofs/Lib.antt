@@ -1,3 +1,4 @@
+pub mod Alive
 pub mod Answered
 pub mod Longs
 pub mod Timing

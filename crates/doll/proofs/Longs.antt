@@ -4,7 +4,9 @@ use Rattle.std.specs.Prelude.{IfSome, nat_lt}
 use Rattle.std.proofs.lemmas.List.{length-replicate}
 use Rattle.doll_base.specs.Inputs.{read_up_to}
 use Rattle.doll_base.specs.declared.input.InputFault.TheVariants.{TooLong}
-use Rattle.doll.specs.Replies.{reply_of, readings_of, plain_path, too_long, IsReply}
+use Rattle.doll.specs.Replies.{reply_of, readings_of, names_of, too_long, IsReplyTo}
+use Rattle.doll.specs.Words.{Command, command_of}
+use Rattle.doll.proofs.Timing.{given_none}
 use Rattle.doll_bundle.proofs.ClockReadings.{appended_none}
 
 -- there is a list of each length
@@ -12,29 +14,33 @@ some_long : (n : ℕ) → (input : List ℕ) × (length input ≡ n)
 some_long n = (replicate n 0, length-replicate n 0)
 
 -- a longer input is answered so, without a reading
-long_reply : (words : List (List ℕ)) (path input : List ℕ) → plain_path words ≡ Some path → nat_lt 16777216 (length input) ≡ true → too_long ≡ reply_of words input []
-long_reply words path input plain long = rw (plain, long) refl
+long_reply : (words : List (List ℕ)) (command : Command) (input : List ℕ) → command_of words ≡ Some command → nat_lt 16777216 (length input) ≡ true → too_long ≡ reply_of words input [] []
+long_reply words command input plain long = rw (plain, long) refl
 
-long_readings : (words : List (List ℕ)) (path input : List ℕ) → plain_path words ≡ Some path → nat_lt 16777216 (length input) ≡ true → 0 ≡ readings_of words input
-long_readings words path input plain long = rw (plain, long) refl
+long_readings : (words : List (List ℕ)) (command : Command) (input : List ℕ) → command_of words ≡ Some command → nat_lt 16777216 (length input) ≡ true → 0 ≡ readings_of words input []
+long_readings words command input plain long = rw (plain, long) refl
 
 -- the reply to such an input
-is_reply : (words : List (List ℕ)) (path input : List ℕ) (left clock : Option (List ℕ)) → plain_path words ≡ Some path → nat_lt 16777216 (length input) ≡ true → IfSome left (λ bytes. bytes ≡ input) → IsReply words left clock clock too_long
-is_reply words path input left clock plain long told = record {
+is_reply : (words : List (List ℕ)) (command : Command) (input : List ℕ) (left : Option (List ℕ)) (files : Option (List (List ℕ × List ℕ))) (clock : Option (List ℕ)) → command_of words ≡ Some command → nat_lt 16777216 (length input) ≡ true
+    → IfSome left (λ bytes. bytes ≡ input) → IsReplyTo (record { words = words; left = left; files = files; before = clock; after = clock }) too_long
+is_reply words command input left files clock plain long told = record {
   input = input;
+  given = [];
   readings = [];
   told = told;
+  gave = given_none files (names_of words input);
   taken = appended_none clock;
-  count = long_readings words path input plain long;
-  is = long_reply words path input plain long;
+  count = long_readings words command input plain long;
+  is = long_reply words command input plain long;
 }
 
 -- the reply to an input that is too long, told or not
-pub too_long-reply : (words : List (List ℕ)) (path : List ℕ) (left clock : Option (List ℕ)) → plain_path words ≡ Some path → IfSome left (λ bytes. read_up_to 16777216 bytes ≡ Err TooLong) → IsReply words left clock clock too_long
-too_long-reply words path None clock plain over =
+pub too_long-reply : (words : List (List ℕ)) (command : Command) (left : Option (List ℕ)) (files : Option (List (List ℕ × List ℕ))) (clock : Option (List ℕ)) → command_of words ≡ Some command → IfSome left (λ bytes. read_up_to 16777216 bytes ≡ Err TooLong)
+    → IsReplyTo (record { words = words; left = left; files = files; before = clock; after = clock }) too_long
+too_long-reply words command None files clock plain over =
     let input = some_long 16777217 in
-    is_reply words path input.0 None clock plain (rw input.1 refl) tt
-too_long-reply words path (Some bytes) clock plain over = is_reply words path bytes (Some bytes) clock plain (by_test (nat_lt 16777216 (length bytes)) over) refl
+    is_reply words command input.0 None files clock plain (rw input.1 refl) tt
+too_long-reply words command (Some bytes) files clock plain over = is_reply words command bytes (Some bytes) files clock plain (by_test (nat_lt 16777216 (length bytes)) over) refl
   where
     by_test : (long : Bool) → cond long (Err TooLong) (Ok bytes) ≡ Err TooLong → long ≡ true
     by_test true is = refl

@@ -1,3 +1,4 @@
 pub mod Replies
 pub mod Statuses
 pub mod Timed
+pub mod Words

@@ -1,9 +1,12 @@
-//! The program: a site's bundle comes on standard input, and the page of a path goes to standard output.
+//! The program: a site's bundle comes on standard input, its files are in the folder, and the page of a path or the digests of
+//! its templates go to standard output.
 #![tactic(auto)]
 
 mod reply;
 mod status;
 mod tool;
+mod unanswered;
+mod words;
 
 use crate::status::Status;
 use crate::tool::run_tool;

@@ -1,19 +1,29 @@
 //! What the program answers to its words and its input.
 
-ghost use Rattle.std.specs.Prelude.{◌≡◌, ◌≢◌, ◌≤◌, true, map, codes, length, string_bytes, option_map, Ok, IfOk};
+ghost use Rattle.std.specs.Prelude.{◌≡◌, ◌≢◌, ◌≤◌, codes, length, Ok, Err, IfOk, IsErrOf};
 ghost use Rattle.serde_json.specs.View.{view};
-ghost use Rattle.doll_plain.specs.Standing.{tree_alone};
-ghost use Rattle.doll_bundle.specs.Bundles.{bundle_of, bundle_in, readings_needed, site_of};
-ghost use Rattle.doll_bundle.specs.Seen.{seen_bundle};
-ghost use Rattle.doll_bundle.specs.Sites.{IsServed};
-ghost use Rattle.doll.specs.Replies.{usage, too_long, unknown, line, page_reply, refusal_reply, site_reply, bundle_reply, plain_reply, plain_path};
+ghost use Rattle.doll_base.specs.Faults.{HasCause, KeepsCount};
+ghost use Rattle.doll_route.specs.Routes.{AreRoutesOf};
+ghost use Rattle.doll_views.specs.Bundles.{bundle_in, bundle_of};
+ghost use Rattle.doll_views.specs.Files.{AsksFirst};
+ghost use Rattle.doll_views.specs.Seen.{seen_bundle, seen_loaded};
+ghost use Rattle.doll_bundle.specs.Sites.{IsServed, readings_needed, site_of};
+ghost use Rattle.doll.specs.Replies as spec;
 ghost use Rattle.doll.specs.Statuses.{IsAnswer};
-ghost use Rattle.doll.specs.Timed.{AnswersTimed};
+ghost use Rattle.doll.specs.Timed.{AnswersFor, AnswersTimed, IsTold};
+ghost use Rattle.doll.specs.Words.{seen_command};
+ghost use Rattle.doll.specs.declared.unanswered.Unanswered.TheVariants as unanswered;
 
 use crate::status::Status;
-use doll_base::Clock;
-use doll_bundle::{Bundle, BundlePart, Kind, Refusal, Site, json_of, read_clock, refusal_line};
+use crate::unanswered::Unanswered;
+use crate::words::Command;
+use doll_base::{Clock, Folder};
+use doll_bundle::{Site, read_clock, untimed};
 use doll_text::{Bytes, Memory};
+use doll_views::{
+    Bundle, Loaded, Refusal, digest_lines, json_of, json_refusal, missing_lines, missing_templates,
+    refusal_line,
+};
 use serde_json::Value;
 use std::alloc::Global;
 
@@ -29,7 +39,7 @@ pub struct Reply {
 
 /// A reply of one line.
 fn line_reply(status: Status, text: Vec<u8>) -> Result<Reply, Memory>
-    ensures { IfOk result (λ reply. reply ≡ record { status = status; text = line text.items }) }
+    ensures { IfOk result (λ reply. reply ≡ record { status = status; text = spec.line text.items }) }
 {
     let mut text = text;
     text.push(b'\n')?;
@@ -41,7 +51,7 @@ fn line_reply(status: Status, text: Vec<u8>) -> Result<Reply, Memory>
 
 /// The usage line, for words that are none of the forms.
 pub fn usage(alloc: Global) -> Result<Reply, Memory>
-    ensures value { IfOk result (λ reply. reply ≡ usage) }
+    ensures value { IfOk result (λ reply. reply ≡ spec.usage) }
     ensures status { IfOk result (λ reply. IsAnswer reply.status) }
 {
     let text =
@@ -51,7 +61,7 @@ pub fn usage(alloc: Global) -> Result<Reply, Memory>
 
 /// The reply to an input that is too long.
 pub fn too_long(alloc: Global) -> Result<Reply, Memory>
-    ensures value { IfOk result (λ reply. reply ≡ too_long) }
+    ensures value { IfOk result (λ reply. reply ≡ spec.too_long) }
     ensures status { IfOk result (λ reply. IsAnswer reply.status) }
 {
     line_reply(
@@ -61,7 +71,7 @@ pub fn too_long(alloc: Global) -> Result<Reply, Memory>
 }
 
 fn unknown(alloc: Global, path: &[u8]) -> Result<Reply, Memory>
-    ensures value { IfOk result (λ reply. reply ≡ unknown path.now) }
+    ensures value { IfOk result (λ reply. reply ≡ spec.unknown path.now) }
     ensures status { IfOk result (λ reply. IsAnswer reply.status) }
 {
     let mut text = Vec::from_slice(alloc, b"unknown ")?;
@@ -69,28 +79,32 @@ fn unknown(alloc: Global, path: &[u8]) -> Result<Reply, Memory>
     line_reply(Status::UnknownPath, text)
 }
 
-/// The reply to a bundle that is refused, or of a form that isn't read yet.
-fn refusal_reply(alloc: Global, why: Refusal) -> Result<Reply, Memory>
-    ensures value { IfOk result (λ reply. reply ≡ refusal_reply why) }
-    ensures real { IfOk result (λ reply. why ≢ Refusal.Memory) }
+/// The reply to a bundle that is refused, or has a part that isn't read yet.
+fn refusal_reply(alloc: Global, why: Refusal) -> Result<Reply, Unanswered>
+    ensures value { IfOk result (λ reply. reply ≡ spec.refusal_reply why) }
+    ensures real { IfOk result (λ reply. IsTold why) }
     ensures status { IfOk result (λ reply. IsAnswer reply.status) }
+    ensures cause { IsErrOf result unanswered.Failed → why ≡ Refusal.Failed }
 {
     match why {
-        Refusal::Refused { part, number, kind } => {
-            line_reply(
-                Status::BundleRefused,
-                refusal_line(alloc, part, number, kind)?,
-            )
-        }
-        Refusal::NotBuilt => line_reply(Status::NotBuilt, Vec::from_slice(alloc, b"not built")?),
-        Refusal::Memory => Err(Memory),
+        Refusal::Refused { part, number, kind } => Ok(line_reply(
+            Status::BundleRefused,
+            refusal_line(alloc, part, number, kind)?,
+        )?),
+        Refusal::NotBuilt => Ok(line_reply(
+            Status::NotBuilt,
+            Vec::from_slice(alloc, b"not built")?,
+        )?),
+        Refusal::TooLong => Ok(too_long(alloc)?),
+        Refusal::Failed => Err(Unanswered::Failed),
+        Refusal::Memory => Err(Unanswered::Memory),
     }
 }
 
 /// The page of a path of a site.
-fn page_reply(alloc: Global, site: &Site, path: &[u8]) -> Result<Reply, Memory>
+fn page_reply(alloc: Global, site: &Site, path: &str) -> Result<Reply, Memory>
     requires { IsServed site.now }
-    ensures value { IfOk result (λ reply. reply ≡ page_reply site.now path.now) }
+    ensures value { IfOk result (λ reply. reply ≡ spec.page_reply site.now path.now) }
     ensures status { IfOk result (λ reply. IsAnswer reply.status) }
 {
     match site.page(alloc, path)? {
@@ -98,103 +112,165 @@ fn page_reply(alloc: Global, site: &Site, path: &[u8]) -> Result<Reply, Memory>
             status: Status::Done,
             text,
         }),
-        None => unknown(alloc, path),
+        None => unknown(alloc, path.as_bytes()),
     }
 }
 
-/// The page of a path of a bundle's site, where the clock gave these readings.
-fn site_reply(
-    alloc: Global,
-    bundle: Bundle<'_>,
-    readings: &[u64],
-    path: &[u8],
-) -> Result<Reply, Memory>
-    requires { tree_alone bundle.pages.tree ≡ true }
-    ensures value { IfOk result (λ reply.
-        reply ≡ site_reply (site_of (seen_bundle bundle.entry) readings.now) path.now) }
+/// The page of a path of a site, where each template that a route names is there.
+fn plain_reply(alloc: Global, site: &Site, path: &str) -> Result<Reply, Memory>
+    requires { IsServed site.now }
+    ensures value { IfOk result (λ reply. reply ≡ spec.plain_reply site.now path.now) }
     ensures status { IfOk result (λ reply. IsAnswer reply.status) }
 {
-    match Site::of(alloc, bundle, readings) {
-        Ok(site) => page_reply(alloc, &site, path),
+    let missing = missing_templates(alloc, &site.set, &site.routes)?;
+    if missing.is_empty() {
+        return page_reply(alloc, site, path);
+    }
+    Ok(Reply {
+        status: Status::Untyped,
+        text: Bytes::from_vec(missing_lines(alloc, missing.as_slice())?),
+    })
+}
+
+/// The digests of a site's templates.
+fn digests_reply(alloc: Global, site: &Site) -> Result<Reply, Memory>
+    ensures value { IfOk result (λ reply. reply ≡ spec.digests_reply site.now) }
+    ensures status { IfOk result (λ reply. IsAnswer reply.status) }
+{
+    Ok(Reply {
+        status: Status::Done,
+        text: Bytes::from_vec(digest_lines(alloc, &site.set)?),
+    })
+}
+
+/// What is asked of a site.
+fn site_reply(alloc: Global, command: Command<'_>, site: &Site) -> Result<Reply, Memory>
+    requires { IsServed site.now }
+    ensures value { IfOk result (λ reply.
+        reply ≡ spec.site_reply (seen_command command.entry) site.now) }
+    ensures status { IfOk result (λ reply. IsAnswer reply.status) }
+{
+    match command {
+        Command::Plain(path) => plain_reply(alloc, site, path),
+        Command::Digests => digests_reply(alloc, site),
+    }
+}
+
+/// What is asked of the site of a bundle, where the clock gave these readings.
+fn made_reply(
+    alloc: Global,
+    command: Command<'_>,
+    loaded: Loaded<'_>,
+    readings: &[u64],
+) -> Result<Reply, Unanswered>
+    requires { AreRoutesOf loaded.schema loaded.routes }
+    ensures value { IfOk result (λ reply. reply ≡ spec.made_reply
+        (seen_command command.entry) (site_of (seen_loaded loaded.entry) readings.now)) }
+    ensures alive { result ≢ Err unanswered.Failed }
+    ensures status { IfOk result (λ reply. IsAnswer reply.status) }
+{
+    match Site::of(alloc, loaded, readings) {
+        Ok(site) => Ok(site_reply(alloc, command, &site)?),
         Err(why) => refusal_reply(alloc, why),
     }
 }
 
 /// The same, where the clock is read once for each of the bundle's commits that says no time.
 #[tactic(auto, using(crate::proofs::Timing::with_clock))]
-fn timed_reply<C: Clock>(
+fn loaded_reply<C: Clock>(
     alloc: Global,
-    bundle: Bundle<'_>,
-    path: &[u8],
+    command: Command<'_>,
+    loaded: Loaded<'_>,
     clock: &mut C,
-) -> Result<Reply, Memory>
-    requires { tree_alone bundle.pages.tree ≡ true }
+) -> Result<Reply, Unanswered>
+    requires { AreRoutesOf loaded.schema loaded.routes }
     ensures value { AnswersTimed
-        (readings_needed (Ok (seen_bundle bundle.entry)))
-        (bundle_reply (Ok (seen_bundle bundle.entry)) path.now)
+        (readings_needed (Ok (seen_loaded loaded.entry)))
+        (spec.loaded_reply (seen_command command.entry) (Ok (seen_loaded loaded.entry)))
         (C.readings clock.old) (C.readings clock.new) result }
+    ensures alive { result ≢ Err unanswered.Failed }
     ensures status { IfOk result (λ reply. IsAnswer reply.status) }
 {
-    let readings = read_clock(alloc, clock, bundle.untimed())?;
-    site_reply(alloc, bundle, readings.as_slice(), path)
+    let readings = read_clock(alloc, clock, untimed(loaded.commits))?;
+    made_reply(alloc, command, loaded, readings.as_slice())
 }
 
-/// The page of a path of the bundle that a JSON value is.
-fn bundle_reply<C: Clock>(
+/// What is asked of the site of a bundle whose files are read from the folder first.
+fn bundle_reply<F: Folder, C: Clock>(
     alloc: Global,
-    json: &Value,
-    path: &[u8],
+    command: Command<'_>,
+    bundle: Bundle<'_>,
+    folder: &mut F,
     clock: &mut C,
-) -> Result<Reply, Memory>
-    ensures value { AnswersTimed
-        (readings_needed (bundle_in (view json.now)))
-        (bundle_reply (bundle_in (view json.now)) path.now)
-        (C.readings clock.old) (C.readings clock.new) result }
+) -> Result<Reply, Unanswered>
+    requires { AreRoutesOf bundle.schema bundle.routes }
+    ensures value { AnswersFor
+        (seen_command command.entry) (Ok (seen_bundle bundle.entry))
+        (F.files folder.old) (C.readings clock.old) (C.readings clock.new) result }
+    ensures asked { AsksFirst
+        (spec.names_in (Ok (seen_bundle bundle.entry)))
+        (F.asked folder.old) (F.asked folder.new) }
+    ensures kept { F.files folder.new ≡ F.files folder.old }
+    ensures cause { HasCause unanswered.Failed (F.faults folder.old) (F.faults folder.new) result }
+    ensures count { KeepsCount (F.faults folder.old) (F.faults folder.new) }
+    ensures clock { IsErrOf result unanswered.Failed → clock.new ≡ clock.old }
     ensures status { IfOk result (λ reply. IsAnswer reply.status) }
 {
-    match Bundle::read(alloc, json) {
-        Ok(bundle) => timed_reply(alloc, bundle, path, clock),
+    match bundle.load(alloc, folder) {
+        Ok(loaded) => loaded_reply(alloc, command, loaded, clock),
         Err(why) => refusal_reply(alloc, why),
     }
 }
 
-/// The reply to `plain PATH` for an input that isn't too long.
-pub fn plain_reply<C: Clock>(
+/// What is asked of the site of the bundle that a JSON value is.
+fn json_reply<F: Folder, C: Clock>(
     alloc: Global,
-    path: &[u8],
-    input: &[u8],
+    command: Command<'_>,
+    json: &Value,
+    folder: &mut F,
     clock: &mut C,
-) -> Result<Reply, Memory>
-    requires { length input.now ≤ LONGEST_INPUT }
-    ensures value { AnswersTimed
-        (readings_needed (bundle_of input.now)) (plain_reply path.now input.now)
-        (C.readings clock.old) (C.readings clock.new) result }
+) -> Result<Reply, Unanswered>
+    ensures value { AnswersFor
+        (seen_command command.entry) (bundle_in (view json.now))
+        (F.files folder.old) (C.readings clock.old) (C.readings clock.new) result }
+    ensures asked { AsksFirst
+        (spec.names_in (bundle_in (view json.now)))
+        (F.asked folder.old) (F.asked folder.new) }
+    ensures kept { F.files folder.new ≡ F.files folder.old }
+    ensures cause { HasCause unanswered.Failed (F.faults folder.old) (F.faults folder.new) result }
+    ensures count { KeepsCount (F.faults folder.old) (F.faults folder.new) }
+    ensures clock { IsErrOf result unanswered.Failed → clock.new ≡ clock.old }
     ensures status { IfOk result (λ reply. IsAnswer reply.status) }
 {
-    match json_of(alloc, input) {
-        Ok(Some(json)) => bundle_reply(alloc, &json, path, clock),
-        Ok(None) => refusal_reply(
-            alloc,
-            Refusal::Refused {
-                part: BundlePart::Json,
-                number: 0,
-                kind: Kind::BadForm,
-            },
-        ),
-        Err(_) => Err(Memory),
+    match Bundle::read(alloc, json) {
+        Ok(bundle) => bundle_reply(alloc, command, bundle, folder, clock),
+        Err(why) => refusal_reply(alloc, why),
     }
 }
 
-/// The path of the words `plain PATH`.
-pub fn plain_path(words: &[String]) -> Option<&[u8]>
-    ensures { option_map (λ path. path.now) result ≡ plain_path (map string_bytes words.now) }
+/// The reply to an input that isn't too long.
+pub fn input_reply<F: Folder, C: Clock>(
+    alloc: Global,
+    command: Command<'_>,
+    input: &[u8],
+    folder: &mut F,
+    clock: &mut C,
+) -> Result<Reply, Unanswered>
+    ensures value { AnswersFor
+        (seen_command command.entry) (bundle_of input.now)
+        (F.files folder.old) (C.readings clock.old) (C.readings clock.new) result }
+    ensures asked { AsksFirst
+        (spec.names_in (bundle_of input.now))
+        (F.asked folder.old) (F.asked folder.new) }
+    ensures kept { F.files folder.new ≡ F.files folder.old }
+    ensures cause { HasCause unanswered.Failed (F.faults folder.old) (F.faults folder.new) result }
+    ensures count { KeepsCount (F.faults folder.old) (F.faults folder.new) }
+    ensures clock { IsErrOf result unanswered.Failed → clock.new ≡ clock.old }
+    ensures status { IfOk result (λ reply. IsAnswer reply.status) }
 {
-    let [word, path] = words else {
-        return None;
-    };
-    if word.as_str() == "plain" {
-        Some(path.as_bytes())
-    } else {
-        None
+    match json_of(alloc, input) {
+        Ok(Some(json)) => json_reply(alloc, command, &json, folder, clock),
+        Ok(None) => refusal_reply(alloc, json_refusal()),
+        Err(_) => Err(Unanswered::Memory),
     }
 }

@@ -12,17 +12,19 @@ pub enum Status {
     WrongWords,
     /// The bundle is refused.
     BundleRefused,
-    /// The bundle is of a form, or its template of a kind, that isn't read yet.
+    /// The bundle has a part that isn't read yet.
     NotBuilt,
+    /// A route names a template that isn't there.
+    Untyped,
     /// No route has the path, or its record isn't there.
     UnknownPath,
-    /// Reading the source failed.
+    /// Reading the source or a file of the folder failed.
     ReadFailed,
     /// Writing failed.
     WriteFailed,
     /// No memory was found.
     NoMemory,
-    /// The input is too long.
+    /// The input or a file of the folder is too long.
     TooLong,
 }
 
@@ -36,6 +38,7 @@ impl Status {
             Status::WrongWords => 2,
             Status::BundleRefused => 3,
             Status::NotBuilt => 4,
+            Status::Untyped => 4,
             Status::UnknownPath => 5,
             Status::ReadFailed => 7,
             Status::WriteFailed => 8,
