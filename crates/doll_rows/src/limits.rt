@@ -44,9 +44,6 @@ const NAMED: &str =
 /// A view, and the template of the path `/` in a folder.
 const FILE: &str = r#""views":{"a.html.erb":""},"files":["home.html.erb"]"#;
 
-/// Views that begin with the template of the path `/`, which renders the next.
-const CHAIN: &str = r#""views":{"home.html.erb":"<%= render \"p0\" %>","#;
-
 /// A text so many times with commas between, with the number of each in place of a word.
 fn repeated(alloc: Global, count: usize, text: &str) -> Result<String, AllocError> {
     let mut all = String::new(alloc);
@@ -198,32 +195,4 @@ fn a_file_may_have_a_quarter_of_a_million_bytes(rt: HostRuntime) -> Result<(), F
     check_file(&rt, 18, "", page.as_str())?;
     check_file(&rt, 18, "x", "bundle views 1: TooLong")?;
     check_file(&rt, 24, "x", "too long")
-}
-
-/// Templates that render one another in a chain, so many between the first and the last.
-fn chain(alloc: Global, count: u32) -> Result<String, AllocError> {
-    let mut text = String::from_str(alloc, CHAIN)?;
-    for index in 0..count {
-        let next = index + 1;
-        let link = format!(in alloc; "\"_p{index}.html.erb\":\"<%= render \\\"p{next}\\\" %>\",")?;
-        text.push_str(link.as_str())?;
-    }
-    let last = format!(in alloc; "\"_p{count}.html.erb\":\"x\"}}")?;
-    text.push_str(last.as_str())?;
-    Ok(text)
-}
-
-/// Sees that a site with so many templates in a chain between the first and the last answers so.
-fn check_chain(rt: &(impl Abort + AllocGlobal), count: u32, wanted: &str) -> Result<(), Fail> {
-    let alloc = rt.alloc();
-    let folder = MemFolder::new(Vec::new(alloc), Vec::new(alloc));
-    let found = home(alloc, chain(alloc, count)?.as_str(), folder)?;
-    assert!(rt; found.as_slice() == wanted.as_bytes(), "of {count}");
-    Ok(())
-}
-
-#[test]
-fn a_chain_may_have_16_templates(rt: HostRuntime) -> Result<(), Fail> {
-    check_chain(&rt, 14, "x")?;
-    check_chain(&rt, 15, "bundle views 16: DepthOver")
 }

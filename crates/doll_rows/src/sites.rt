@@ -25,7 +25,7 @@ const STORES: &str = r##"[
 [{"schema":STORE,"commits":STOCK,"routes":TO_STORE,"views":{"products/show.html.erb":"(<%= render partial: \"games/row\", collection: product.name %>)","games/_row.html.erb":"x","games/index.html.erb":""}},"/products/1","()"]
 ]"##;
 
-/// Bundles with routes of other forms, and refusals.
+/// Bundles with routes of other forms, refusals, and chains of 16 and 17 templates.
 const ROUTES: &str = r##"[
 [{"schema":PRODUCT,"views":{"q.html.erb":"[<%= q %>][<%= q.nil? %>]"},"routes":[{"path":"/","template":"q","params":["q"]}]},"/?x=1&q=a+b&q=c","[a b][false]"],
 [{"schema":PRODUCT,"views":{"q.html.erb":"[<%= q %>][<%= q.nil? %>]"},"routes":[{"path":"/","template":"q","params":["q"]}]},"/","[][true]"],
@@ -40,6 +40,8 @@ const ROUTES: &str = r##"[
 [{"schema":PRODUCT,"views":{"a.html.erb":"","b.html.erb":"<% end %>","c.html.erb":"<% end %>"}},"/","bundle views 1: BadTemplate"],
 [{"schema":PRODUCT,"views":{"a.html.erb":"<% end %>","b.erb":""}},"/","bundle views 0: BadTemplate"],
 [{"schema":PRODUCT,"views":{"a.html.erb":"","b.erb":"<% end %>"}},"/","bundle views 1: BadName"],
+[{"schema":PRODUCT,"routes":[{"path":"/","template":"home"}],"views":{"home.html.erb":"<%= render \"p0\" %>","_p0.html.erb":"<%= render \"p1\" %>","_p1.html.erb":"<%= render \"p2\" %>","_p2.html.erb":"<%= render \"p3\" %>","_p3.html.erb":"<%= render \"p4\" %>","_p4.html.erb":"<%= render \"p5\" %>","_p5.html.erb":"<%= render \"p6\" %>","_p6.html.erb":"<%= render \"p7\" %>","_p7.html.erb":"<%= render \"p8\" %>","_p8.html.erb":"<%= render \"p9\" %>","_p9.html.erb":"<%= render \"p10\" %>","_p10.html.erb":"<%= render \"p11\" %>","_p11.html.erb":"<%= render \"p12\" %>","_p12.html.erb":"<%= render \"p13\" %>","_p13.html.erb":"<%= render \"p14\" %>","_p14.html.erb":"x"}},"/","x"],
+[{"schema":PRODUCT,"routes":[{"path":"/","template":"home"}],"views":{"home.html.erb":"<%= render \"p0\" %>","_p0.html.erb":"<%= render \"p1\" %>","_p1.html.erb":"<%= render \"p2\" %>","_p2.html.erb":"<%= render \"p3\" %>","_p3.html.erb":"<%= render \"p4\" %>","_p4.html.erb":"<%= render \"p5\" %>","_p5.html.erb":"<%= render \"p6\" %>","_p6.html.erb":"<%= render \"p7\" %>","_p7.html.erb":"<%= render \"p8\" %>","_p8.html.erb":"<%= render \"p9\" %>","_p9.html.erb":"<%= render \"p10\" %>","_p10.html.erb":"<%= render \"p11\" %>","_p11.html.erb":"<%= render \"p12\" %>","_p12.html.erb":"<%= render \"p13\" %>","_p13.html.erb":"<%= render \"p14\" %>","_p14.html.erb":"<%= render \"p15\" %>","_p15.html.erb":"x"}},"/","bundle views 16: DepthOver"],
 [{"schema":[]},"/","bundle schema 0: BadForm"],
 [{"schema":PRODUCT,"other":1},"/","bundle json 0: BadForm"],
 [{"views":{}},"/","bundle json 0: BadForm"],
@@ -47,11 +49,7 @@ const ROUTES: &str = r##"[
 ]"##;
 
 #[test]
-fn stores_answer_as_worked_by_hand(rt: HostRuntime) -> Result<(), Fail> {
-    check_rows(&rt, STORES)
-}
-
-#[test]
-fn routes_answer_as_worked_by_hand(rt: HostRuntime) -> Result<(), Fail> {
+fn sites_answer_as_worked_by_hand(rt: HostRuntime) -> Result<(), Fail> {
+    check_rows(&rt, STORES)?;
     check_rows(&rt, ROUTES)
 }

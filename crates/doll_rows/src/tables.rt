@@ -36,7 +36,7 @@ const WORDS: [(&str, &str); 11] = [
         "TO_COMMENTS",
         r#"[{"path":"/comments/:id","template":"thing","record":"comment"}]"#,
     ),
-    // Products with games, one of three games, and a page of either.
+    // Products with games, a product that has three, and the pages of a product and of all games.
     (
         "STORE",
         r#"{"models":[{"name":"product","plural":"products","attributes":[{"name":"name","kind":"text"},{"name":"price","kind":"integer"}],"has_many":[{"name":"games","model":"game","inverse":"product","dependent":"destroy"}]},{"name":"game","plural":"games","attributes":[{"name":"name","kind":"text"}],"belongs_to":[{"name":"product","model":"product","touch":true}]}]}"#,
