@@ -59,7 +59,7 @@ pub fn type_of(
 }
 
 /// The type of a variable.
-fn named_type(
+pub fn named_type(
     alloc: Global,
     typing: &Typing,
     name: &Name,
@@ -86,7 +86,7 @@ fn last_binding<'a>(typing: &'a Typing, name: &[u8]) -> Option<&'a (Name, ValueT
 }
 
 /// The type of a name after a dot.
-fn step_type(
+pub fn step_type(
     alloc: Global,
     schema: &Schema,
     from: ValueType,

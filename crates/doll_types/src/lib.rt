@@ -17,9 +17,11 @@ mod rounds;
 mod typed;
 mod types;
 
-pub use expressions::type_of;
+pub use expressions::{named_type, step_type, type_of};
 pub use fault::{TypeFault, TypeFaults, TypeRefusal};
 pub use findings::Finding;
+pub use operators::{binary_type, negated_type, query_type};
 pub use reached::Reached;
+pub use renders::{items_type, locals_typing};
 pub use typed::{Typed, type_set};
 pub use types::{TypeKind, Typing, ValueType};

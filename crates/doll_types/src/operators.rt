@@ -7,7 +7,7 @@ use crate::types::{TypeKind, ValueType};
 use doll_expr::{Op, Query};
 
 /// The type of the answer to a question.
-pub(crate) fn query_type(query: Query, of: ValueType) -> Result<ValueType, TypeKind>
+pub fn query_type(query: Query, of: ValueType) -> Result<ValueType, TypeKind>
     ensures { result ≡ spec.query_type query of }
 {
     match query {
@@ -18,14 +18,14 @@ pub(crate) fn query_type(query: Query, of: ValueType) -> Result<ValueType, TypeK
 }
 
 /// The type of a number with its sign changed.
-pub(crate) fn negated_type(of: ValueType) -> Result<ValueType, TypeKind>
+pub fn negated_type(of: ValueType) -> Result<ValueType, TypeKind>
     ensures { result ≡ spec.negated_type of }
 {
     checked(is_number(of), ValueType::Integer)
 }
 
 /// What an operator gives for sides of these types.
-pub(crate) fn binary_type(op: Op, left: ValueType, right: ValueType) -> Result<ValueType, TypeKind>
+pub fn binary_type(op: Op, left: ValueType, right: ValueType) -> Result<ValueType, TypeKind>
     ensures { result ≡ spec.binary_type op left right }
 {
     match op {

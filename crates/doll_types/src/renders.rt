@@ -15,7 +15,7 @@ use doll_text::{Items, Memory, Name};
 use std::alloc::Global;
 
 /// The type of the items of a list.
-pub(crate) fn items_type(
+pub fn items_type(
     alloc: Global,
     schema: &Schema,
     typing: &Typing,
@@ -126,7 +126,7 @@ fn add_locals(
 
 /// The variables that a partial is rendered with, with their types, or the first fault among them.
 #[tactic(auto, using(doll_set::proofs::Making::none_made, doll_set::proofs::Making::one_made, doll_set::proofs::Making::one_fails, doll_set::proofs::Making::all_made))]
-fn locals_typing(
+pub fn locals_typing(
     alloc: Global,
     schema: &Schema,
     typing: &Typing,

@@ -1,0 +1,10 @@
+pub mod Paths
+pub mod Readings
+pub mod Needs
+pub mod Blocks
+pub mod Faults
+pub mod Found
+pub mod Order
+pub mod Ties
+pub mod Shared
+pub mod Checked

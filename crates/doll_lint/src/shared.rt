@@ -1,0 +1,108 @@
+//! Blocks of one template that may share a key.
+
+ghost use Rattle.std.specs.Prelude.{◌≡◌, ◌++◌, OnOk};
+ghost use Rattle.doll_lint.specs.Shared as spec;
+
+use crate::block::PartShape;
+use crate::fault::{LintFault, LintKind};
+use crate::found::{Note, name_of};
+use doll_set::TemplateSet;
+use doll_text::{Memory, Name};
+use std::alloc::Global;
+
+/// Appends the faults of noted blocks that may share a key with an earlier block of their template.
+pub(crate) fn add_shared(
+    alloc: Global,
+    set: &TemplateSet,
+    notes: &[Note],
+    faults: &mut Vec<LintFault>,
+) -> Result<(), Memory>
+    ensures { OnOk result (faults.new.items
+        ≡ faults.old.items ++ spec.all_shared set.now notes.now) }
+{
+    for later in notes {
+        add_shared_with(alloc, set, notes, later, faults)?;
+    }
+    Ok(())
+}
+
+/// Appends those of one of them.
+#[tactic(auto, unfolding(crate::specs::Shared::shared_with))]
+fn add_shared_with(
+    alloc: Global,
+    set: &TemplateSet,
+    notes: &[Note],
+    later: &Note,
+    faults: &mut Vec<LintFault>,
+) -> Result<(), Memory>
+    ensures { OnOk result (faults.new.items
+        ≡ faults.old.items ++ spec.shared_with set.now notes.now later.now) }
+{
+    for earlier in notes {
+        add_shared_by(alloc, set, later, earlier, faults)?;
+    }
+    Ok(())
+}
+
+/// Appends the fault of a block that may share the key of another.
+fn add_shared_by(
+    alloc: Global,
+    set: &TemplateSet,
+    later: &Note,
+    earlier: &Note,
+    faults: &mut Vec<LintFault>,
+) -> Result<(), Memory>
+    ensures { OnOk result (faults.new.items
+        ≡ faults.old.items ++ spec.shared_by set.now later.now earlier.now) }
+{
+    if !may_share(earlier, later) {
+        return Ok(());
+    }
+    let template = Name::from_bytes(alloc, name_of(set, later.template))?;
+    let at = later.at;
+    let kind = LintKind::SharedKey {
+        other: earlier.number,
+    };
+    faults.push(LintFault { template, at, kind })?;
+    Ok(())
+}
+
+/// Whether the second of two noted blocks comes behind the first in one template, and their keys have one shape.
+fn may_share(earlier: &Note, later: &Note) -> bool
+    ensures { result ≡ spec.may_share earlier.now later.now }
+{
+    if earlier.template != later.template {
+        return false;
+    }
+    if earlier.number >= later.number {
+        return false;
+    }
+    same_shape(earlier.shape.as_slice(), later.shape.as_slice())
+}
+
+/// Whether two keys have one shape.
+fn same_shape(ones: &[PartShape], others: &[PartShape]) -> bool
+    ensures { result ≡ spec.same_shape ones.now others.now }
+{
+    let [one, more @ ..] = ones else {
+        return others.is_empty();
+    };
+    let [other, rest @ ..] = others else {
+        return false;
+    };
+    if !same_part(one, other) {
+        return false;
+    }
+    same_shape(more, rest)
+}
+
+fn same_part(one: &PartShape, other: &PartShape) -> bool
+    ensures { result ≡ spec.same_part one.now other.now }
+{
+    match (one, other) {
+        (PartShape::Record { model: m }, PartShape::Record { model: n }) => *m == *n,
+        (PartShape::Single, PartShape::Single) => true,
+        (PartShape::Literal(s), PartShape::Literal(t)) => s.as_bytes() == t.as_bytes(),
+        _ => false,
+    }
+}
