@@ -1,3 +1,4 @@
+pub mod Endless
 pub mod Layers
 pub mod Leading
 pub mod Levels

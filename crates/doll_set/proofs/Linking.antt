@@ -1,17 +1,20 @@
 -- What holds of the graph of templates that are linked.
-use Rattle.std.proofs.Common.{◌≡◌, ℕ, zero, suc, ◌<◌, List, [], ◌∷◌, length, get_or, Result, Ok, Err, refl, ap, sym, subst, ◌∙◌}
+use Rattle.std.proofs.Common.{◌≡◌, ℕ, zero, suc, ◌<◌, List, [], ◌∷◌, length, get_or, None, Some, Result, Ok, Err, refl, ap, sym, subst, ◌∙◌}
 use Rattle.std.specs.List.{AllByRecursion}
 use Rattle.std.specs.Result.{IsErrAnd}
 use Rattle.std.proofs.lemmas.List.{length-map}
 use Rattle.doll_text.specs.Gives.{Gives}
 use Rattle.doll_text.specs.Steps.{◌>>=◌, ◌>>◌}
-use Rattle.doll_graph.specs.Graphs.{Graph}
+use Rattle.doll_graph.specs.Graphs.{Graph, cycle, first_longer}
+use Rattle.doll_graph.proofs.Endless.{no_cycle_where_short}
 use Rattle.doll_set.specs.declared.dependencies.Links.{Links}
 use Rattle.doll_set.specs.declared.fault.SetFault.{SetFault}
+use Rattle.doll_set.specs.declared.fault.SetFault.TheVariants.{DepthOver}
 use Rattle.doll_set.specs.declared.template.Template.{Template}
 use Rattle.doll_set.specs.Dependencies.{AreLinksBelow, all_links, graph_of}
-use Rattle.doll_set.specs.Digests.{EachIsThere}
-use Rattle.doll_set.specs.Sets.{fit, linked, linked_graph}
+use Rattle.doll_set.specs.declared.limits.TheConstants.{LONGEST_CHAIN}
+use Rattle.doll_set.specs.Digests.{EachIsThere, name_at, too_deep}
+use Rattle.doll_set.specs.Sets.{first_heavy, fit, linked, linked_graph, no_cycle, none_deep, none_wide}
 
 abbrev value_or : {Y F : Type 0} → Y → Result Y F → Y
 value_or y (Ok x) = x
@@ -69,3 +72,19 @@ links_behind templates graph e = by (linked templates) refl e
     by : (r : Result (List Links) SetFault) → linked templates ≡ r → (r >>= (λ links. Ok (graph_of links))) ≡ Ok graph → (links : List Links) × ((linked templates ≡ Ok links) × (graph ≡ graph_of links))
     by (Ok links) is h = (links, (is, sym (same_value (graph_of links) graph h)))
     by (Err fault) is h = absurd (cc h)
+
+-- ---- fitting
+
+-- where no chain is too long, links fit where none is too heavy
+pub short_fits : (templates : List Template) (links : List Links) (graph : Graph) → graph ≡ graph_of links → first_longer graph LONGEST_CHAIN ≡ None → fit templates links ≡ none_wide templates (first_heavy templates links)
+unfolding too_deep
+short_fits templates links graph is short =
+    ap (λ way. no_cycle templates way >> (none_deep templates (first_longer (graph_of links) LONGEST_CHAIN) >> none_wide templates (first_heavy templates links))) (ap cycle (sym is) ∙ no_cycle_where_short graph LONGEST_CHAIN short)
+    ∙ ap (λ long. none_deep templates long >> none_wide templates (first_heavy templates links)) (ap (λ g. first_longer g LONGEST_CHAIN) (sym is) ∙ short)
+
+-- where nothing leads back to itself but a chain is too long, its first template is told
+pub deep_refused : (templates : List Template) (links : List Links) (graph : Graph) (number : ℕ) → graph ≡ graph_of links → no_cycle templates (cycle graph) ≡ Ok tt → first_longer graph LONGEST_CHAIN ≡ Some number → fit templates links ≡ Err (DepthOver (name_at templates number))
+unfolding too_deep
+deep_refused templates links graph number is straight long =
+    ap (λ r. r >> (none_deep templates (first_longer (graph_of links) LONGEST_CHAIN) >> none_wide templates (first_heavy templates links))) (ap (λ g. no_cycle templates (cycle g)) (sym is) ∙ straight)
+    ∙ ap (λ long. none_deep templates long >> none_wide templates (first_heavy templates links)) (ap (λ g. first_longer g LONGEST_CHAIN) (sym is) ∙ long)

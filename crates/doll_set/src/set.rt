@@ -218,7 +218,9 @@ fn linked(
     Ok(graph)
 }
 
-/// Nothing leads back to itself, no chain is too long and none is too heavy.
+/// Nothing leads back to itself, no chain is too long and none is too heavy. Where no chain is too long nothing leads back to
+/// itself, so the ways back are looked for only in a set that is refused.
+#[tactic(auto, using(crate::proofs::Linking::short_fits, crate::proofs::Linking::deep_refused), unfolding(crate::specs::Digests::too_deep))]
 fn fit(
     alloc: Global,
     templates: &[Template],
@@ -231,8 +233,12 @@ fn fit(
     ensures answer { Gives NoMemory (spec.fit templates.now links.now) result }
     ensures shallow { OnOk result (too_deep graph.now ≡ None) }
 {
-    no_cycle(alloc, templates, graph)?;
-    none_deep(alloc, templates, graph)?;
+    if let Some(number) = first_longer(alloc, graph, LONGEST_CHAIN)? {
+        no_cycle(alloc, templates, graph)?;
+        return Err(SetFault::DepthOver {
+            name: name_at(alloc, templates, number)?,
+        });
+    }
     none_wide(alloc, templates, links)
 }
 
@@ -278,22 +284,6 @@ fn name_at(alloc: Global, templates: &[Template], number: u32) -> Result<Name, M
     match templates.get(number as usize) {
         Some(template) => template.name.copy(alloc),
         None => Name::from_bytes(alloc, &[]),
-    }
-}
-
-/// No chain is too long.
-#[tactic(auto, unfolding(crate::specs::Digests::too_deep))]
-fn none_deep(alloc: Global, templates: &[Template], graph: &[Ids]) -> Result<(), SetFault>
-    requires count { length graph.now < 2 ^ 32 }
-    ensures answer { Gives NoMemory
-        (spec.none_deep templates.now (too_deep graph.now)) result }
-    ensures shallow { OnOk result (too_deep graph.now ≡ None) }
-{
-    match first_longer(alloc, graph, LONGEST_CHAIN)? {
-        Some(number) => Err(SetFault::DepthOver {
-            name: name_at(alloc, templates, number)?,
-        }),
-        None => Ok(()),
     }
 }
 

@@ -1,7 +1,7 @@
 //! Sets of a few files, with their digests and their refusals.
 
 use doll_base::ViewFile;
-use doll_digest::{Md5Hash, Registry};
+use doll_digest::{Md5Hash, Registry, WeakHash};
 use doll_set::{SetFault, TemplateSet};
 use doll_text::{Memory, Name, Text};
 use std::alloc::Global;
@@ -89,5 +89,34 @@ fn partials_that_render_each_other_are_a_cycle(rt: HostRuntime) -> Result<(), Fa
             Ok(())
         }
         _ => Err(Fail::from("no cycle")),
+    }
+}
+
+#[test]
+fn a_changed_partial_changes_the_digests_above_it_alone(rt: HostRuntime) -> Result<(), Fail> {
+    let mut changed = GAMES;
+    changed[1].1 = "<% cache game do %><b><%= game.name %></b><% end %>";
+    let set = set(rt.alloc(), &changed).ok().ok_or("refused")?;
+    let same = [false, true, true, false];
+    for number in 0..4 {
+        let digest = set.digest(number).ok_or("no digest")?;
+        assert_eq!(rt; digest.hex() == *DIGESTS[number], same[number]);
+    }
+    Ok(())
+}
+
+#[test]
+fn two_texts_with_one_hash_are_both_told(rt: HostRuntime) -> Result<(), Fail> {
+    let files = files(rt.alloc(), &[("a.html.erb", "a"), ("b.html.erb", "b")])
+        .ok()
+        .ok_or("no memory")?;
+    let mut registry = Registry::new(rt.alloc(), WeakHash);
+    match TemplateSet::read(rt.alloc(), files.as_slice(), &mut registry) {
+        Err(SetFault::Clash { old, new }) => {
+            assert_eq!(rt; old.as_bytes(), b"1:a,".as_slice());
+            assert_eq!(rt; new.as_bytes(), b"1:b,".as_slice());
+            Ok(())
+        }
+        _ => Err(Fail::from("no clash")),
     }
 }
