@@ -12,7 +12,7 @@ use Rattle.doll.specs.Replies.{AsksFor, IsReplyTo, ReadsFor, names_in, names_of,
 use Rattle.doll.specs.Timed.{AnswersFor}
 use Rattle.doll.specs.Words.{Command, command_of}
 use Rattle.doll_bundle.proofs.ClockReadings.{appended_none}
-use Rattle.doll.proofs.Timing.{asks_none, given_none}
+use Rattle.doll.proofs.Timing.{asks_none, given_of, given_whole}
 
 -- there is an input that was left
 left_input : (left : Option (List ℕ)) → (input : List ℕ) × IfSome left (λ bytes. bytes ≡ input)
@@ -26,10 +26,10 @@ usage_reply words left files clock none =
     let input = left_input left in
     record {
       input = input.0;
-      given = [];
+      given = given_of files (names_of words input.0);
       readings = [];
       told = input.1;
-      gave = given_none files (names_of words input.0);
+      gave = given_whole files (names_of words input.0);
       taken = appended_none clock;
       count = rw none refl;
       is = rw none refl;
@@ -72,10 +72,10 @@ no_reading words left files clock =
     let input = left_input left in
     record {
       input = input.0;
-      given = [];
+      given = given_of files (names_of words input.0);
       readings = [];
       told = input.1;
-      gave = given_none files (names_of words input.0);
+      gave = given_whole files (names_of words input.0);
       taken = appended_none clock;
       count = omega arith;
     }

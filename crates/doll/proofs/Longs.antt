@@ -6,7 +6,7 @@ use Rattle.doll_base.specs.Inputs.{read_up_to}
 use Rattle.doll_base.specs.declared.input.InputFault.TheVariants.{TooLong}
 use Rattle.doll.specs.Replies.{reply_of, readings_of, names_of, too_long, IsReplyTo}
 use Rattle.doll.specs.Words.{Command, command_of}
-use Rattle.doll.proofs.Timing.{given_none}
+use Rattle.doll.proofs.Timing.{given_of, given_whole}
 use Rattle.doll_bundle.proofs.ClockReadings.{appended_none}
 
 -- there is a list of each length
@@ -14,24 +14,24 @@ some_long : (n : ℕ) → (input : List ℕ) × (length input ≡ n)
 some_long n = (replicate n 0, length-replicate n 0)
 
 -- a longer input is answered so, without a reading
-long_reply : (words : List (List ℕ)) (command : Command) (input : List ℕ) → command_of words ≡ Some command → nat_lt 16777216 (length input) ≡ true → too_long ≡ reply_of words input [] []
-long_reply words command input plain long = rw (plain, long) refl
+long_reply : (words : List (List ℕ)) (command : Command) (input : List ℕ) (given : List (Option (List ℕ))) → command_of words ≡ Some command → nat_lt 16777216 (length input) ≡ true → too_long ≡ reply_of words input given []
+long_reply words command input given plain long = rw (plain, long) refl
 
-long_readings : (words : List (List ℕ)) (command : Command) (input : List ℕ) → command_of words ≡ Some command → nat_lt 16777216 (length input) ≡ true → 0 ≡ readings_of words input []
-long_readings words command input plain long = rw (plain, long) refl
+long_readings : (words : List (List ℕ)) (command : Command) (input : List ℕ) (given : List (Option (List ℕ))) → command_of words ≡ Some command → nat_lt 16777216 (length input) ≡ true → 0 ≡ readings_of words input given
+long_readings words command input given plain long = rw (plain, long) refl
 
 -- the reply to such an input
 is_reply : (words : List (List ℕ)) (command : Command) (input : List ℕ) (left : Option (List ℕ)) (files : Option (List (List ℕ × List ℕ))) (clock : Option (List ℕ)) → command_of words ≡ Some command → nat_lt 16777216 (length input) ≡ true
     → IfSome left (λ bytes. bytes ≡ input) → IsReplyTo (record { words = words; left = left; files = files; before = clock; after = clock }) too_long
 is_reply words command input left files clock plain long told = record {
   input = input;
-  given = [];
+  given = given_of files (names_of words input);
   readings = [];
   told = told;
-  gave = given_none files (names_of words input);
+  gave = given_whole files (names_of words input);
   taken = appended_none clock;
-  count = long_readings words command input plain long;
-  is = long_reply words command input plain long;
+  count = long_readings words command input (given_of files (names_of words input)) plain long;
+  is = long_reply words command input (given_of files (names_of words input)) plain long;
 }
 
 -- the reply to an input that is too long, told or not

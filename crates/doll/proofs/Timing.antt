@@ -1,7 +1,8 @@
 -- Answers that take what a folder gave and readings of a clock.
-use Rattle.std.proofs.Common.{◌≡◌, ℕ, List, [], length, Option, None, Some, Result, Ok, Err, IfOk, refl, sym, arith}
+use Rattle.std.proofs.Common.{◌≡◌, ℕ, List, [], length, map, Option, None, Some, Result, Ok, Err, IfOk, refl, sym, arith}
 use Rattle.std.proofs.lemmas.List.{append-nil}
 use Rattle.serde_json.specs.Data.{Data}
+use Rattle.doll_base.specs.Folders.{file_named}
 use Rattle.doll_base.specs.Streams.{Appended}
 use Rattle.doll_bundle.proofs.ClockReadings.{appended_none}
 use Rattle.doll_bundle.specs.Sites.{readings_needed}
@@ -20,10 +21,14 @@ pub with_clock : {A F : Type 0} (needed : ℕ) (expected : List ℕ → A) (befo
 with_clock needed expected before after readings (Ok x) taken count is = (readings, taken, omega (arith, count), (count, is))
 with_clock needed expected before after readings (Err e) taken count is = (readings, taken, omega (arith, count), tt)
 
--- nothing given yet
-pub given_none : (told : Option (List (List ℕ × List ℕ))) (names : List (List ℕ)) → IsGiven told names []
-given_none None names = tt
-given_none (Some files) names = refl
+-- what a folder has under names, where it tells its files
+abbrev pub given_of : Option (List (List ℕ × List ℕ)) → List (List ℕ) → List (Option (List ℕ))
+given_of None names = []
+given_of (Some files) names = map (λ name. file_named name files) names
+
+pub given_whole : (told : Option (List (List ℕ × List ℕ))) (names : List (List ℕ)) → IsGiven told names (given_of told names)
+given_whole None names = tt
+given_whole (Some files) names = refl
 
 -- nothing asked
 pub asks_none : (names before : List (List ℕ)) → AsksFirst names before before
@@ -48,12 +53,12 @@ pub refused_bundle : {F : Type 0} (command : Command) (bundle : Result Bundle Re
     → ((why ≡ Memory → ⊥) → bundle ≡ Err why) → IfOk result (λ reply. reply ≡ refusal_reply why) → IfOk result (λ reply. IsTold why)
     → AnswersFor command bundle told now now result
 refused_bundle command bundle told why now (Ok reply) gives is real =
-    ([], given_none told (names_in bundle), ([], appended_none now, omega arith, (rw (gives real.0) refl, rw (gives real.0) is)))
-refused_bundle command bundle told why now (Err e) gives is real = ([], given_none told (names_in bundle), ([], appended_none now, omega arith, tt))
+    (given_of told (names_in bundle), given_whole told (names_in bundle), ([], appended_none now, omega arith, (rw (gives real.0) refl, rw (gives real.0) is)))
+refused_bundle command bundle told why now (Err e) gives is real = (given_of told (names_in bundle), given_whole told (names_in bundle), ([], appended_none now, omega arith, tt))
 
 -- where there is no answer, none was needed
 pub no_answer : {F : Type 0} (command : Command) (bundle : Result Bundle Refusal) (told : Option (List (List ℕ × List ℕ))) (now : Option (List ℕ)) (e : F) → AnswersFor command bundle told now now (Err e)
-no_answer command bundle told now e = ([], given_none told (names_in bundle), ([], appended_none now, omega arith, tt))
+no_answer command bundle told now e = (given_of told (names_in bundle), given_whole told (names_in bundle), ([], appended_none now, omega arith, tt))
 
 -- the same bundle, said otherwise
 pub answer_along : {F : Type 0} (command : Command) (bundle other : Result Bundle Refusal) (told : Option (List (List ℕ × List ℕ))) (before after : Option (List ℕ)) (result : Result Reply F)

@@ -2,7 +2,7 @@
 use Rattle.std.proofs.Common.{◌≡◌, ◌+◌, ◌<◌, ◌≤◌, ℕ, List, [], ◌∷◌, ◌++◌, length, map, take, drop, get_or, Option, None, Some, Result, Ok, Err, refl, sym, ap, ◌∙◌, arith}
 use Rattle.std.specs.Prelude.{IfSome}
 use Rattle.std.proofs.Common.{append_assoc}
-use Rattle.std.proofs.lemmas.List.{append-nil, at_drop_all, drop_more, length-append, map-append, take_more, take-map}
+use Rattle.std.proofs.lemmas.List.{append-nil, at_drop_all, drop_more, length-append, map-append, take-append-drop, take_more, take-map}
 use Rattle.doll_base.specs.Folders.{file_named}
 use Rattle.doll_base.specs.declared.in_memory.ViewFile.{ViewFile}
 use Rattle.doll_text.specs.Steps.{◌>>=◌}
@@ -75,39 +75,50 @@ read_more told files wanted read index file one within is before gives = record 
       ∙ ap (λ made. made >>= (λ (m : ViewFile). read_from files (read ++ m ∷ []) (drop (index + 1) wanted) more)) gives.2;
 }
 
--- a list of answers so long is given for the first names
-is_given : (told : Option (List (List ℕ × List ℕ))) (names : List (List ℕ)) (given : List (Option (List ℕ))) (index : ℕ) → length given ≡ index → IfSome told (λ folder. given ≡ map (λ n. file_named n folder) (take index names)) → IsGiven told names given
-is_given None names given index count is = tt
-is_given (Some folder) names given index count is = rw count is
+-- what a folder that tells its files has under the names behind the first ones
+abbrev pub given_behind : Option (List (List ℕ × List ℕ)) → List (List ℕ) → ℕ → List (Option (List ℕ))
+given_behind None names index = []
+given_behind (Some folder) names index = map (λ n. file_named n folder) (drop index names)
+
+-- with these, what was given for the first names is what is given for all
+is_given : (told : Option (List (List ℕ × List ℕ))) (names : List (List ℕ)) (given : List (Option (List ℕ))) (index : ℕ) → IfSome told (λ folder. given ≡ map (λ n. file_named n folder) (take index names)) → IsGiven told names (given ++ given_behind told names index)
+is_given None names given index is = tt
+is_given (Some folder) names given index is =
+    ap (λ front. front ++ map (λ n. file_named n folder) (drop index names)) is
+    ∙ sym (map-append (λ n. file_named n folder) (take index names) (drop index names))
+    ∙ ap (map (λ n. file_named n folder)) (take-append-drop index names)
 
 -- a file was refused
 pub read_refused : {Y : Type 0} (v : Y → List ViewFile) (told : Option (List (List ℕ × List ℕ))) (files wanted : List NamedFile) (read : List ViewFile) (index : ℕ) (file : NamedFile) (why : Refusal) → index < length wanted → file ≡ get_or wanted index file → ReadSoFar told files wanted read index
     → GivesFound {X = ViewFile} (λ made. made) told file.name (read_file (number_in_folder files file.name) file.name) (Err why) → GivesFor v told (wanted_names wanted) (read_from files [] wanted) (Err why)
 read_refused v told files wanted read index file why within is before gives = (
-  before.given ++ gives.0 ∷ [],
-  is_given told (wanted_names wanted) (before.given ++ gives.0 ∷ []) (index + 1) (count_more before.given gives.0 index before.count) (told_more told (take index (wanted_names wanted)) (take (index + 1) (wanted_names wanted)) file.name before.given gives.0 (next_names wanted index file within is) before.told_is gives.1),
+  (before.given ++ gives.0 ∷ []) ++ behind,
+  is_given told (wanted_names wanted) (before.given ++ gives.0 ∷ []) (index + 1) (told_more told (take index (wanted_names wanted)) (take (index + 1) (wanted_names wanted)) file.name before.given gives.0 (next_names wanted index file within is) before.told_is gives.1),
   λ memory failed.
-      ap (λ all. read_from files [] wanted all) (sym (append-nil (before.given ++ gives.0 ∷ [])))
-      ∙ ap (λ all. read_from files [] wanted all) (all_given before.given gives.0 [])
-      ∙ before.answer (gives.0 ∷ [])
-      ∙ step files wanted read index file gives.0 [] within is
-      ∙ ap (λ made. made >>= (λ (m : ViewFile). read_from files (read ++ m ∷ []) (drop (index + 1) wanted) [])) (gives.2 memory failed),
+      ap (λ all. read_from files [] wanted all) (all_given before.given gives.0 behind)
+      ∙ before.answer (gives.0 ∷ behind)
+      ∙ step files wanted read index file gives.0 behind within is
+      ∙ ap (λ made. made >>= (λ (m : ViewFile). read_from files (read ++ m ∷ []) (drop (index + 1) wanted) behind)) (gives.2 memory failed),
 )
+  where
+    behind : List (Option (List ℕ))
+    behind = given_behind told (wanted_names wanted) (index + 1)
 
 -- memory ran out
 pub read_unfinished : {Y : Type 0} (v : Y → List ViewFile) (told : Option (List (List ℕ × List ℕ))) (files wanted : List NamedFile) (read : List ViewFile) (index : ℕ) → ReadSoFar told files wanted read index → GivesFor v told (wanted_names wanted) (read_from files [] wanted) (Err refusal.Memory)
 read_unfinished v told files wanted read index before =
-    (before.given, is_given told (wanted_names wanted) before.given index before.count before.told_is, λ memory failed. absurd (memory refl))
+    (before.given ++ given_behind told (wanted_names wanted) index, is_given told (wanted_names wanted) before.given index before.told_is, λ memory failed. absurd (memory refl))
 
 -- all were read
 pub read_all : {Y : Type 0} (v : Y → List ViewFile) (told : Option (List (List ℕ × List ℕ))) (files wanted : List NamedFile) (index : ℕ) (made : Y) → length wanted ≤ index → ReadSoFar told files wanted (v made) index → GivesFor v told (wanted_names wanted) (read_from files [] wanted) (Ok made)
 read_all v told files wanted index made all before = (
-  before.given,
-  is_given told (wanted_names wanted) before.given index before.count before.told_is,
-  ap (λ given. read_from files [] wanted given) (sym (append-nil before.given))
-      ∙ before.answer []
-      ∙ at_drop_all (λ rest. read_from files (v made) rest []) wanted index all,
+  before.given ++ behind,
+  is_given told (wanted_names wanted) before.given index before.told_is,
+  before.answer behind ∙ at_drop_all (λ rest. read_from files (v made) rest behind) wanted index all,
 )
+  where
+    behind : List (Option (List ℕ))
+    behind = given_behind told (wanted_names wanted) index
 
 -- ---- what was asked
 

@@ -101,9 +101,9 @@ files_of listing given = do
 abbrev pub wanted_names : List NamedFile → List (List ℕ)
 wanted_names wanted = map (λ (f : NamedFile). f.name) wanted
 
--- The folder gave these bytes for the first of the names, in turn: of each file, where it tells its files, those that it has.
+-- The folder has these bytes under the names, in turn, where it tells its files; else it gave some.
 abbrev pub IsGiven : Option (List (List ℕ × List ℕ)) → List (List ℕ) → List (Option (List ℕ)) → Type 0
-IsGiven told names given = IfSome told (λ files. given ≡ map (λ name. file_named name files) (take (length given) names))
+IsGiven told names given = IfSome told (λ files. given ≡ map (λ name. file_named name files) names)
 
 -- The folder was asked for the first of these names, in turn, perhaps for none or all.
 abbrev pub AsksFirst : List (List ℕ) → List (List ℕ) → List (List ℕ) → Type 0
