@@ -9,12 +9,9 @@ use crate::opening::opened;
 use crate::reaching::{Reach, expand};
 use doll_route::Route;
 use doll_schema::Schema;
-use doll_set::TemplateSet;
+use doll_set::{LONGEST_CHAIN, TemplateSet};
 use doll_text::Memory;
 use std::alloc::Global;
-
-/// How many templates the longest chain of a set has.
-const LONGEST: u32 = 16;
 
 /// All that the pages of routes reach, with its calls and its faults. In each round what the one before reached is looked at; no
 /// chain is longer than there are rounds.
@@ -29,7 +26,7 @@ pub(crate) fn reach_all(
     ensures all { IfOk result (λ reach. length reach.reached ≤ length reach.calls) }
 {
     let mut reach = opened(alloc, set, schema, routes)?;
-    for _round in 0..LONGEST {
+    for _round in 0..LONGEST_CHAIN {
         let end = reach.reached.len();
         expand_to(alloc, set, schema, end, &mut reach)?;
     }
