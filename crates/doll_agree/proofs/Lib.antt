@@ -1,0 +1,14 @@
+pub mod Lists
+pub mod Children
+pub mod Readings
+pub mod Told
+pub mod Steps
+pub mod Covered
+pub mod Suiting
+pub mod Stands
+pub mod Expressions
+pub mod Scopes
+pub mod Parts
+pub mod Bodies
+pub mod Reaching
+pub mod Agreeing
