@@ -1,4 +1,4 @@
--- When two pages ask for a cached block under one key: what the key tells is the same for both (this project's own). A page is a table and variables over it.
+-- What two pages have in common that ask for a cached block under one key (this project's own). A page is a table and variables over it.
 use Rattle.std.specs.Prelude.{◌≡◌, List, ⊤}
 use Rattle.std.specs.List.{Contains}
 use Rattle.doll_expr.specs.declared.expr.Expr.{Expr}

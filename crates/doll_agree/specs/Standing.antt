@@ -151,7 +151,7 @@ Wait p t paths a b = AreSingle a b ⊎ AtSome p paths a b
 abbrev pub AreMet : ModelList → List Path → List Wanted → Type 0
 AreMet schema key wants = AllByRecursion (λ (w : Wanted). meets schema key w.grade w.path ≡ true) wants
 
--- Variables of both pages in an inner scope, each of which stands for paths from those of the block: on the first page they have their types.
+-- Variables of both pages in an inner scope, each of which stands for paths from those of the block. On the first page they have their types.
 pub record AreInScope (p : Pages) (typing : Typing) (standing : Standing) (here there : Variables) : Type 0 where
   pub have : HaveTypes p.one typing here
   pub wait : (name : List ℕ) (t : ValueType) → variable_type typing name ≡ Some t → Wait p t (stands_for standing name) (variable here name) (variable there name)
@@ -166,7 +166,8 @@ named_paths schema typing key = flat_map (part_paths schema typing (scope_roots 
 abbrev pub IsKeyPart : ModelList → Typing → Expr → Type 0
 IsKeyPart schema typing expr = (t : ValueType) × (type_of schema typing expr ≡ Ok t) × (is_key expr t ≡ true)
 
--- Two pages ask for a block by one key: their tables fit the schema and are of one history, on the first the variables have their types, and the key's parts agree.
+-- Two pages ask for a block under one key: their tables fit the schema, records have the same children where they are the same, on the first page
+-- the variables have their types, and the parts of the key agree.
 pub record AreAsked (p : Pages) (typing : Typing) (key : List KeyPart) : Type 0 where
   pub fits : Fits p.schema p.one
   pub fits_there : Fits p.schema p.other
