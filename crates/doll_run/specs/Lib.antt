@@ -1,0 +1,4 @@
+pub mod Direct
+pub mod Pages
+pub mod Rendering
+pub mod Runs
