@@ -1,5 +1,5 @@
 -- Values that are walked have the types of their items.
-use Rattle.std.proofs.Common.{◌≡◌, ℕ, List, [], ◌∷◌, ◌++◌, map, Result, Ok, Err, IsSome, All, refl, ap, sym, subst, ◌∙◌}
+use Rattle.std.proofs.Common.{◌≡◌, ℕ, List, [], ◌∷◌, map, Result, Ok, Err, IsSome, refl, subst}
 use Rattle.std.specs.List.{AllByRecursion}
 use Rattle.std.proofs.lemmas.List.Elements.{recursion_from_All}
 use Rattle.doll_text.specs.Steps.{◌>>=◌}
@@ -7,7 +7,6 @@ use Rattle.doll_expr.specs.declared.expr.Expr.{Expr}
 use Rattle.doll_schema.specs.Models.{ModelList}
 use Rattle.doll_schema.specs.declared.value.Val.{Val}
 use Rattle.doll_schema.specs.declared.value.Val.TheVariants as val
-use Rattle.doll_schema.specs.declared.value.Value.TheVariants as value
 use Rattle.doll_table.specs.Fits.{Fits}
 use Rattle.doll_table.specs.Tables.{TableMap, row_of}
 use Rattle.doll_eval.specs.Values.{value_of}

@@ -1,3 +1,4 @@
+pub mod Comes
 pub mod Direct
 pub mod Pages
 pub mod Rendering

@@ -10,7 +10,7 @@ use Rattle.doll_set.specs.declared.limits.TheConstants.{LONGEST_CHAIN}
 use Rattle.doll_set.specs.declared.template.Template.{Template}
 use Rattle.doll_set.specs.Dependencies.{names_of, number_of, partial_of}
 use Rattle.doll_set.specs.Digests.{name_at}
-use Rattle.doll_set.specs.Sets.{tree_at}
+use Rattle.doll_set.specs.Sets.{ReadSet, tree_at}
 use Rattle.doll_route.specs.declared.route.Found.{Found}
 use Rattle.doll_route.specs.declared.route.Route.{Route}
 use Rattle.doll_route.specs.declared.route.Subject.{Subject}
@@ -32,27 +32,32 @@ pub record Ground : Type 0 where
   pub templates : List Template
   pub keyed : ℕ → Typing → List KeyPart → Variables → Keyed
 
+-- of a set
+abbrev pub ground_of : ReadSet → ModelList → TableMap → ℕ → ℕ → (ℕ → Typing → List KeyPart → Variables → Keyed) → Ground
+ground_of set schema table moment tree keyed =
+    record { schema = schema; table = table; moment = moment; tree = tree; templates = set.templates; keyed = keyed }
+
 -- what the template with a number is rendered over, by what each template runs
 abbrev pub stage_in : Ground → (ℕ → Runs) → ℕ → Stage
-stage_in ground runs number = record {
-  schema = ground.schema;
-  table = ground.table;
-  moment = ground.moment;
-  tree = ground.tree;
+stage_in over runs number = record {
+  schema = over.schema;
+  table = over.table;
+  moment = over.moment;
+  tree = over.tree;
   template = number;
-  keyed = ground.keyed;
-  partial = partial_of (names_of ground.templates) (name_at ground.templates number);
+  keyed = over.keyed;
+  partial = partial_of (names_of over.templates) (name_at over.templates number);
   runs = runs;
 }
 
 -- what a template runs by so many levels of partials; by no level nothing
 unfoldable pub levels_run : Ground → ℕ → ℕ → Runs
-levels_run ground levels number =
-    by_levels (λ typing vars rest. rest) (λ number runs. tree_runs (stage_in ground runs number) (tree_at ground.templates number)) levels number
+levels_run over levels number =
+    by_levels (λ typing vars rest. rest) (λ number runs. tree_runs (stage_in over runs number) (tree_at over.templates number)) levels number
 
 -- what a template runs: no chain of partials has more levels
 abbrev pub template_runs : Ground → ℕ → Runs
-template_runs ground number = levels_run ground LONGEST_CHAIN number
+template_runs over number = levels_run over LONGEST_CHAIN number
 
 -- ---- pages
 
@@ -64,16 +69,16 @@ opening_looks subject.Nothing = 0
 
 -- what the page of a route runs; none exactly where its record isn't in the table
 abbrev pub route_run : Ground → Route → Option ℕ → List Value → Option Run
-route_run ground route id params =
-    if is_there ground.table route.subject id
+route_run over route id params =
+    if is_there over.table route.subject id
     then Some
-        (option_map_or
-        (λ number.
-        template_runs ground number (route_typing ground.schema route) (route_variables ground.schema route id params ground.table) Ends (opening_looks route.subject) [])
-        (number_of (names_of ground.templates) route.template) (Ends (opening_looks route.subject) []))
+    (option_map_or
+    (λ number.
+    template_runs over number (route_typing over.schema route) (route_variables over.schema route id params over.table) Ends (opening_looks route.subject) [])
+    (number_of (names_of over.templates) route.template) (Ends (opening_looks route.subject) []))
     else None
 
 -- the same of what a path found
 abbrev pub page_run : Ground → List Route → Found → List Value → Option Run
-page_run ground routes found params =
-    option_and_then (λ (route : Route). route_run ground route found.id params) (slice_get routes found.route)
+page_run over routes found params =
+    option_and_then (λ (route : Route). route_run over route found.id params) (slice_get routes found.route)

@@ -1,11 +1,9 @@
 -- Rendering through a cache: what a template asks for, hands in and writes, by the recursion of direct rendering (this project's own).
-use Rattle.std.specs.Prelude.{ℕ, ◌+◌, Bool, true, false, List, [], ◌∷◌, ◌++◌, map, Option, None, Some, Result, Ok, Err, if◌then◌else◌, slice_get, bytes_eq, sum_by}
-use Rattle.std.specs.List.{zip}
-use Rattle.std.specs.Option.{option_map_or}
+use Rattle.std.specs.Prelude.{ℕ, ◌+◌, Bool, true, false, List, [], ◌∷◌, ◌++◌, map, Option, None, Some, Result, Ok, Err, if◌then◌else◌, sum_by}
 use Rattle.doll_schema.specs.Models.{ModelList}
 use Rattle.doll_schema.specs.declared.value.Val.{Val}
 use Rattle.doll_expr.specs.declared.expr.Expr.{Expr}
-use Rattle.doll_erb.specs.declared.node.Arm.{Arm, Arm-F}
+use Rattle.doll_erb.specs.declared.node.Arm.{Arm-F}
 use Rattle.doll_erb.specs.declared.node.KeyPart.{KeyPart}
 use Rattle.doll_erb.specs.declared.node.Local.{Local}
 use Rattle.doll_erb.specs.declared.node.Node.{Node, fold-Node}
@@ -13,12 +11,6 @@ use Rattle.doll_erb.specs.declared.node.Node.TheOpen.{Node-F}
 use Rattle.doll_table.specs.Tables.{TableMap}
 use Rattle.doll_eval.specs.Operations as of
 use Rattle.doll_eval.specs.Values.{looks_of, value_of}
-use Rattle.doll_graph.specs.Levels.{by_levels}
-use Rattle.doll_set.specs.declared.limits.TheConstants.{LONGEST_CHAIN}
-use Rattle.doll_set.specs.declared.template.Template.{Template}
-use Rattle.doll_set.specs.Dependencies.{names_of, partial_of}
-use Rattle.doll_set.specs.Digests.{name_at}
-use Rattle.doll_set.specs.Sets.{tree_at}
 use Rattle.doll_plain.specs.Direct.{Variables, items_of}
 use Rattle.doll_types.specs.declared.types.TypeKind.{TypeKind}
 use Rattle.doll_types.specs.declared.types.ValueType.{ValueType}
@@ -27,7 +19,7 @@ use Rattle.doll_types.specs.Types.{Typing}
 use Rattle.doll_lint.specs.Blocks.{item_key, item_number}
 use Rattle.doll_entry.specs.declared.asks.Ask.{Ask}
 use Rattle.doll_entry.specs.declared.entry.Fresh.{Fresh}
-use Rattle.doll_run.specs.Runs.{Ends, Reads, ReadsMany, Rest, Run, Writes}
+use Rattle.doll_run.specs.Runs.{Reads, ReadsMany, Rest, Writes}
 
 -- ---- what a rendering goes by
 
@@ -81,24 +73,24 @@ for_each run (x ∷ xs) rest = run x (for_each run xs rest)
 
 -- ---- blocks
 
--- what is asked for a block
-abbrev pub asked : Stage → ℕ → ℕ → Keyed → Variables → Ask
-asked stage template block key vars = record {
+-- what is asked for a block of a template of the set with a number
+abbrev pub asked : ℕ → ℕ → ℕ → Keyed → Variables → Ask
+asked tree template block key vars = record {
   key = key.text;
   versions = key.versions;
-  block = record { tree = stage.tree; template = template; block = block };
+  block = record { tree = tree; template = template; block = block };
   vars = vars;
 }
 
--- a block that was rendered as these bytes
-abbrev pub fresh : Stage → ℕ → ℕ → Keyed → Variables → List ℕ → Fresh
-fresh stage template block key vars bytes = record {
+-- the same block that was rendered as these bytes, over a history whose last commit has this moment
+abbrev pub fresh : ℕ → ℕ → ℕ → ℕ → Keyed → Variables → List ℕ → Fresh
+fresh tree moment template block key vars bytes = record {
   key = key.text;
   versions = key.versions;
   value = bytes;
   vars = vars;
-  block = record { tree = stage.tree; template = template; block = block };
-  origin = stage.moment;
+  block = record { tree = tree; template = template; block = block };
+  origin = moment;
 }
 
 -- what was found is written; else the body runs by itself, is handed in, and is written
@@ -109,7 +101,7 @@ found_or None body made rest looks out = body (λ more inner. Writes more (made 
 -- a block of a template with a number: it is asked for, and then what was found stands in its place
 abbrev pub block_run : Stage → ℕ → ℕ → Keyed → Variables → (Rest → Rest) → Rest → Rest
 block_run stage template block key vars body rest looks out =
-    Reads (looks + key.looks) (asked stage template block key vars) (λ found. found_or found body (fresh stage template block key vars) rest 0 out)
+    Reads (looks + key.looks) (asked stage.tree template block key vars) (λ found. found_or found body (fresh stage.tree stage.moment template block key vars) rest 0 out)
 
 -- ---- collections
 
@@ -122,12 +114,12 @@ abbrev pub item_keyed : Stage → ℕ → List ℕ → ValueType → Val → Key
 item_keyed stage partial name t item = stage.keyed partial ((name, t) ∷ []) (item_key name) (only name item)
 
 abbrev pub item_asked : Stage → ℕ → List ℕ → ValueType → Val → Ask
-item_asked stage partial name t item = asked stage partial item_number (item_keyed stage partial name t item) (only name item)
+item_asked stage partial name t item = asked stage.tree partial item_number (item_keyed stage partial name t item) (only name item)
 
 -- an item of which this was found
 abbrev pub item_run : Stage → ℕ → List ℕ → ValueType → Val × Option (List ℕ) → Rest → Rest
 item_run stage partial name t one =
-    found_or one.1 (stage.runs partial ((name, t) ∷ []) (only name one.0)) (fresh stage partial item_number (item_keyed stage partial name t one.0) (only name one.0))
+    found_or one.1 (stage.runs partial ((name, t) ∷ []) (only name one.0)) (fresh stage.tree stage.moment partial item_number (item_keyed stage partial name t one.0) (only name one.0))
 
 -- so many answers as there are questions: what is lacking wasn't found
 abbrev pub answers_to : {X : Type 0} → List X → List (Option (List ℕ)) → List (X × Option (List ℕ))
