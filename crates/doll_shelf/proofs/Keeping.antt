@@ -1,16 +1,19 @@
 -- Entries by their keys, and the list of them.
-use Rattle.std.proofs.Common.{◌≡◌, ◌<◌, ◌≤◌, ℕ, ◌+◌, suc, zero, Bool, true, false, cond, not, ◌||◌, nat_lt, get_or, append_assoc, List, [], ◌∷◌, ◌++◌, map, length, take, drop, position, slice_get, None, Some, unwrap_or, if◌then◌else◌, add-one, refl, sym, ap, subst, ◌∙◌, arith}
+use Prim.Native.Nat.compare
+use lib.Dec.{is_le}
+use Rattle.std.proofs.lemmas.Bool.{lt-ltb}
+use Rattle.std.proofs.Common.{◌≡◌, ◌<◌, ◌≤◌, ℕ, ◌+◌, suc, zero, Option, Bool, true, false, cond, not, ◌||◌, nat_lt, get_or, append_assoc, List, [], ◌∷◌, ◌++◌, map, length, take, drop, position, slice_get, None, Some, unwrap_or, if◌then◌else◌, refl, sym, ap, subst, ◌∙◌, arith}
 use Rattle.std.specs.List.{position_or_len, prefix_len, remove, slice_set}
-use Rattle.std.specs.Map.{keys_of, lookup, values_of}
+use Rattle.std.specs.Map.{keys_of, lookup, lookup_entry, remove_entry, set_value}
 use Rattle.std.specs.Option.{option_map, option_map_or}
 use Rattle.std.specs.Str.{bytes_eq}
 use Rattle.std.proofs.lemmas.List.{append-nil, drop_more, length-map, take-append-drop}
+use Rattle.std.proofs.lemmas.Map.{keys-set_value}
+use Rattle.std.proofs.lemmas.Map.Entries.{length-keys_of}
 use Rattle.std.proofs.Math.ListN.{drop_of_length-le}
 use Rattle.std.proofs.lemmas.List.Sums.{sum_by-append, sum_by-cons, sum_by-remove, sum_by-set}
 use Rattle.std.proofs.lemmas.Option.{get_or_from_slice_get, slice_get-map, slice_get_within}
 use Rattle.std.proofs.lemmas.Slice.Eq.{bytes_eq-Decides}
-use Rattle.indexmap.specs.IndexMap.{insert_entry, set_value_at}
-use Rattle.indexmap.specs.Layout.{length-set_value_at}
 use Rattle.doll_entry.specs.declared.entry.Entry.{Entry}
 use Rattle.doll_entry.specs.Judging.{counted_time, judged_by}
 use Rattle.doll_shelf.specs.declared.kept.Kept.{Kept}
@@ -20,7 +23,8 @@ use Rattle.doll_entry.specs.declared.asks.Ask.{Ask}
 use Rattle.doll_entry.specs.declared.asks.Fetched.{Fetched}
 use Rattle.doll_entry.specs.declared.judging.Judged.{Judged}
 use Rattle.doll_entry.specs.declared.asks.Miss.TheVariants as miss
-use Rattle.doll_shelf.specs.Fetches.{Fetches, HitsOrTells, IsHit, ReadsAll, any_failed, fetched, fetched_at, fetched_by, fetched_from, is_failed, with_expiry}
+use Rattle.doll_shelf.specs.Fetches.{Fetches, HitsOrTells, IsHit, ReadsAll, any_failed, fetched, fetched_at, fetched_by, fetched_from, is_failed}
+use Rattle.doll_shelf.specs.Queue.{kept_until}
 use Rattle.doll_shelf.specs.Shares.{Shares}
 use Rattle.doll_shelf.specs.Kept.{entries_of, entry_kept}
 
@@ -57,62 +61,164 @@ fetched_absent key versions now ttl kept gone = ap (λ o. fetched_from o version
 
 -- ---- changes
 
--- a value in place of another
-pub entries_set : (kept : List (List ℕ × Kept)) (place : ℕ) (stored : List ℕ) (old new : Kept) → slice_get kept place ≡ Some (stored, old)
-    → entries_of (set_value_at kept place new) ≡ slice_set (entries_of kept) place (entry_kept (stored, new))
-entries_set [] place stored old new stands = absurd (cc stands)
-entries_set (first ∷ more) zero stored old new stands =
-    ap (λ key. entry_kept (key, new) ∷ entries_of more) (ap (λ o. (unwrap_or o first).0) stands)
-entries_set (first ∷ more) (suc place) stored old new stands = ap (λ entries. entry_kept first ∷ entries) (entries_set more place stored old new stands)
-
--- an entry less
-pub entries_without : (kept : List (List ℕ × Kept)) (place : ℕ) → entries_of (remove kept place) ≡ remove (entries_of kept) place
+-- an entry less, by its place
+entries_without : (kept : List (List ℕ × Kept)) (place : ℕ) → entries_of (remove kept place) ≡ remove (entries_of kept) place
 entries_without [] zero = refl
 entries_without [] (suc place) = refl
 entries_without (first ∷ more) zero = refl
 entries_without (first ∷ more) (suc place) = ap (λ entries. entry_kept first ∷ entries) (entries_without more place)
 
--- an entry more, or in place of the one under its key
-pub entries_put : (kept : List (List ℕ × Kept)) (key : List ℕ) (new : Kept) → entries_of (insert_entry bytes_eq kept key new) ≡ put (entry_kept (key, new)) (entries_of kept)
-entries_put [] key new = refl
-entries_put (first ∷ more) key new = by (bytes_eq key first.0) refl (entries_put more key new)
+-- an entry in place of the one under its key
+pub put_present : (kept : List (List ℕ × Kept)) (key : List ℕ) (new at : Kept) → lookup (bytes_eq key) kept ≡ Some at
+    → entries_of (set_value (bytes_eq key) kept new) ≡ put (entry_kept (key, new)) (entries_of kept)
+put_present [] key new at one = absurd (cc one)
+put_present (first ∷ more) key new at one = by (bytes_eq key first.0) refl one (put_present more key new at)
   where
-    by : (b : Bool) → bytes_eq key first.0 ≡ b → entries_of (insert_entry bytes_eq more key new) ≡ put (entry_kept (key, new)) (entries_of more)
-        → entries_of (if b then (first.0, new) ∷ more else first ∷ insert_entry bytes_eq more key new)
+    by : (b : Bool) → bytes_eq key first.0 ≡ b → cond b (Some first.1) (lookup (bytes_eq key) more) ≡ Some at
+        → (lookup (bytes_eq key) more ≡ Some at → entries_of (set_value (bytes_eq key) more new) ≡ put (entry_kept (key, new)) (entries_of more))
+        → entries_of (cond b ((first.0, new) ∷ more) (first ∷ set_value (bytes_eq key) more new))
         ≡ (if b then entry_kept (key, new) ∷ entries_of more else entry_kept first ∷ put (entry_kept (key, new)) (entries_of more))
-    by true e rest = ap (λ stored. entry_kept (stored, new) ∷ entries_of more) (sym ((bytes_eq-Decides key first.0).0 e))
-    by false e rest = ap (λ entries. entry_kept first ∷ entries) rest
+    by true e one rest = ap (λ stored. entry_kept (stored, new) ∷ entries_of more) (sym ((bytes_eq-Decides key first.0).0 e))
+    by false e one rest = ap (λ entries. entry_kept first ∷ entries) (rest one)
+
+-- an entry more
+pub put_absent : (kept : List (List ℕ × Kept)) (key : List ℕ) (new : Kept) → lookup (bytes_eq key) kept ≡ None
+    → entries_of (kept ++ (key, new) ∷ []) ≡ put (entry_kept (key, new)) (entries_of kept)
+put_absent [] key new none = refl
+put_absent (first ∷ more) key new none = by (bytes_eq key first.0) none (put_absent more key new)
+  where
+    by : (b : Bool) → cond b (Some first.1) (lookup (bytes_eq key) more) ≡ None
+        → (lookup (bytes_eq key) more ≡ None → entries_of (more ++ (key, new) ∷ []) ≡ put (entry_kept (key, new)) (entries_of more))
+        → entries_of ((first ∷ more) ++ (key, new) ∷ [])
+        ≡ (if b then entry_kept (key, new) ∷ entries_of more else entry_kept first ∷ put (entry_kept (key, new)) (entries_of more))
+    by true none rest = absurd (cc none)
+    by false none rest = ap (λ entries. entry_kept first ∷ entries) (rest none)
+
+-- ---- where a key stands
+
+-- the place of a key, by what stands there
+pub record Place (key : List ℕ) (kept : List (List ℕ × Kept)) (stored : List ℕ) (at : Kept) : Type 0 where
+  pub place : ℕ
+  pub found : position (bytes_eq key) (keys_of kept) ≡ Some place
+  pub stands : slice_get kept place ≡ Some (stored, at)
+  pub removed : remove_entry (bytes_eq key) kept ≡ remove kept place
+  pub set : (w : Kept) → entries_of (set_value (bytes_eq key) kept w) ≡ slice_set (entries_of kept) place (entry_kept (stored, w))
+  pub same : key ≡ stored
+
+later_within : (p n : ℕ) → nat_lt (suc p) (suc n) ≡ nat_lt p n
+later_within p n = ap is_le (compare.suc-suc (suc p) n)
+
+next_place : (p n place : ℕ) → cond (nat_lt p n) (Some p) None ≡ Some place → cond (nat_lt (1 + p) (suc n)) (Some (1 + p)) None ≡ Some (suc place)
+next_place p n place e =
+    let one : 1 + p ≡ suc p = omega arith in
+    ap (λ m. cond (nat_lt m (suc n)) (Some m) None) one ∙ ap (λ b. cond b (Some (suc p)) None) (later_within p n) ∙ by (nat_lt p n) e
+  where
+    by : (b : Bool) → cond b (Some p) None ≡ Some place → cond b (Some (suc p)) None ≡ Some (suc place)
+    by true e = ap (λ o. Some (suc (unwrap_or o p))) e
+    by false e = absurd (cc e)
+
+further : (key : List ℕ) (first : List ℕ × Kept) (more : List (List ℕ × Kept)) (stored : List ℕ) (at : Kept) → bytes_eq key first.0 ≡ false → Place key more stored at
+    → Place key (first ∷ more) stored at
+further key first more stored at fails rest =
+    let p = position_or_len (bytes_eq key) (keys_of more) in
+    record {
+      place = suc rest.place;
+      found = ap (λ b. cond (nat_lt (cond (not b) (1 + p) 0) (suc (length (keys_of more)))) (Some (cond (not b) (1 + p) 0)) None) fails
+          ∙ next_place p (length (keys_of more)) rest.place rest.found;
+      stands = rest.stands;
+      removed = ap (λ b. cond b more (first ∷ remove_entry (bytes_eq key) more)) fails ∙ ap (λ l. first ∷ l) rest.removed;
+      set = λ w. ap (λ b. entries_of (cond b ((first.0, w) ∷ more) (first ∷ set_value (bytes_eq key) more w))) fails ∙ ap (λ l. entry_kept first ∷ l) (rest.set w);
+      same = rest.same;
+    }
+
+pub place_at : (key : List ℕ) (kept : List (List ℕ × Kept)) (stored : List ℕ) (at : Kept) → lookup_entry (bytes_eq key) kept ≡ Some (stored, at) → Place key kept stored at
+place_at key [] stored at one = absurd (cc one)
+place_at key (first ∷ more) stored at one = by (bytes_eq key first.0) refl one (place_at key more stored at)
+  where
+    by : (b : Bool) → bytes_eq key first.0 ≡ b → cond b (Some first) (lookup_entry (bytes_eq key) more) ≡ Some (stored, at)
+        → (lookup_entry (bytes_eq key) more ≡ Some (stored, at) → Place key more stored at) → Place key (first ∷ more) stored at
+    by true passes one rest =
+        let is : first ≡ (stored, at) = ap (λ o. unwrap_or o first) one in
+        let p = position_or_len (bytes_eq key) (keys_of more) in
+        record {
+          place = 0;
+          found = ap (λ b. cond (nat_lt (cond (not b) (1 + p) 0) (suc (length (keys_of more)))) (Some (cond (not b) (1 + p) 0)) None) passes
+              ∙ ap (λ b. cond b (Some 0) None) (lt-ltb 0 (suc (length (keys_of more))) (omega arith));
+          stands = one;
+          removed = ap (λ b. cond b more (first ∷ remove_entry (bytes_eq key) more)) passes;
+          set = λ w. ap (λ b. entries_of (cond b ((first.0, w) ∷ more) (first ∷ set_value (bytes_eq key) more w))) passes
+              ∙ ap (λ e. entry_kept (e.0, w) ∷ entries_of more) is;
+          same = (bytes_eq-Decides key first.0).0 passes ∙ ap (λ e. e.0) is;
+        }
+    by false fails one rest = further key first more stored at fails (rest one)
+
+-- an entry less
+pub entries_removed : (key : List ℕ) (kept : List (List ℕ × Kept)) (stored : List ℕ) (at : Kept) → (known : Place key kept stored at)
+    → entries_of (remove_entry (bytes_eq key) kept) ≡ remove (entries_of kept) known.place
+entries_removed key kept stored at known = ap entries_of known.removed ∙ entries_without kept known.place
+
+-- the pair of a value that is found
+pub entry_of_value : (key : List ℕ) (kept : List (List ℕ × Kept)) (at : Kept) → lookup (bytes_eq key) kept ≡ Some at
+    → (stored : List ℕ) × (lookup_entry (bytes_eq key) kept ≡ Some (stored, at))
+entry_of_value key [] at one = absurd (cc one)
+entry_of_value key (first ∷ more) at one = by (bytes_eq key first.0) one (entry_of_value key more at)
+  where
+    by : (b : Bool) → cond b (Some first.1) (lookup (bytes_eq key) more) ≡ Some at
+        → (lookup (bytes_eq key) more ≡ Some at → (stored : List ℕ) × (lookup_entry (bytes_eq key) more ≡ Some (stored, at)))
+        → (stored : List ℕ) × (cond b (Some first) (lookup_entry (bytes_eq key) more) ≡ Some (stored, at))
+    by true one rest = (first.0, ap (λ o. Some (first.0, unwrap_or o at)) one)
+    by false one rest = rest one
+
+pub place_of_value : (key : List ℕ) (kept : List (List ℕ × Kept)) (at : Kept) → lookup (bytes_eq key) kept ≡ Some at → (stored : List ℕ) × Place key kept stored at
+place_of_value key kept at one = let entry = entry_of_value key kept at one in (entry.0, place_at key kept entry.0 at entry.1)
+
+-- a key that isn't there has no place
+pub no_place : (key : List ℕ) (kept : List (List ℕ × Kept)) → lookup (bytes_eq key) kept ≡ None → position (bytes_eq key) (keys_of kept) ≡ None
+no_place key [] none = refl
+no_place key (first ∷ more) none = by (bytes_eq key first.0) none (no_place key more)
+  where
+    p : ℕ
+    p = position_or_len (bytes_eq key) (keys_of more)
+
+    next : (q n : ℕ) → cond (nat_lt q n) (Some q) None ≡ None → cond (nat_lt (1 + q) (suc n)) (Some (1 + q)) None ≡ None
+    next q n e =
+        let one : 1 + q ≡ suc q = omega arith in
+        ap (λ m. cond (nat_lt m (suc n)) (Some m) None) one ∙ ap (λ b. cond b (Some (suc q)) None) (later_within q n) ∙ over (nat_lt q n) e
+      where
+        over : (b : Bool) → cond b (Some q) None ≡ None → cond b (Some (suc q)) None ≡ None
+        over true e = absurd (cc e)
+        over false e = refl
+
+    by : (b : Bool) → cond b (Some first.1) (lookup (bytes_eq key) more) ≡ None → (lookup (bytes_eq key) more ≡ None → position (bytes_eq key) (keys_of more) ≡ None)
+        → cond (nat_lt (cond (not b) (1 + p) 0) (suc (length (keys_of more)))) (Some (cond (not b) (1 + p) 0)) None ≡ None
+    by true none rest = absurd (cc none)
+    by false none rest = next p (length (keys_of more)) (rest none)
+
+-- nor is it removed
+pub not_removed : (key : List ℕ) (kept : List (List ℕ × Kept)) → lookup_entry (bytes_eq key) kept ≡ None
+    → (remove_entry (bytes_eq key) kept ≡ kept) × (lookup (bytes_eq key) kept ≡ None)
+not_removed key [] none = (refl, refl)
+not_removed key (first ∷ more) none = by (bytes_eq key first.0) none (not_removed key more)
+  where
+    by : (b : Bool) → cond b (Some first) (lookup_entry (bytes_eq key) more) ≡ None
+        → (lookup_entry (bytes_eq key) more ≡ None → (remove_entry (bytes_eq key) more ≡ more) × (lookup (bytes_eq key) more ≡ None))
+        → (cond b more (first ∷ remove_entry (bytes_eq key) more) ≡ first ∷ more) × (cond b (Some first.1) (lookup (bytes_eq key) more) ≡ None)
+    by true none rest = absurd (cc none)
+    by false none rest = (ap (λ l. first ∷ l) (rest none).0, (rest none).1)
 
 -- ---- sizes
 
--- the size of what is kept under a key, 0 where there is nothing
-abbrev pub size_within : List ℕ → List (List ℕ × Kept) → ℕ
-size_within key kept = option_map_or (λ at. size_of (entry_kept (key, at))) (lookup (bytes_eq key) kept) 0
-
-pub within_le : (key : List ℕ) (kept : List (List ℕ × Kept)) → size_within key kept ≤ total_size (entries_of kept)
-within_le key [] = omega arith
-within_le key (first ∷ more) = by (bytes_eq key first.0) refl (within_le key more)
-  where
-    by : (b : Bool) → bytes_eq key first.0 ≡ b → size_within key more ≤ total_size (entries_of more)
-        → option_map_or (λ at. size_of (entry_kept (key, at))) (cond b (Some first.1) (lookup (bytes_eq key) more)) 0 ≤ total_size (entry_kept first ∷ entries_of more)
-    by true e rest = omega (arith, sum_by-cons size_of (entry_kept first) (entries_of more), ap length ((bytes_eq-Decides key first.0).0 e))
-    by false e rest = omega (arith, sum_by-cons size_of (entry_kept first) (entries_of more), rest)
-
--- one size comes, and that of what is put away goes
-pub size_put : (key : List ℕ) (new : Kept) (kept : List (List ℕ × Kept))
-    → total_size (put (entry_kept (key, new)) (entries_of kept)) + size_within key kept ≡ total_size (entries_of kept) + size_of (entry_kept (key, new))
-size_put key new [] = omega (arith, sum_by-cons size_of (entry_kept (key, new)) [])
-size_put key new (first ∷ more) = by (bytes_eq key first.0) refl (size_put key new more)
-  where
-    by : (b : Bool) → bytes_eq key first.0 ≡ b
-        → total_size (put (entry_kept (key, new)) (entries_of more)) + size_within key more ≡ total_size (entries_of more) + size_of (entry_kept (key, new))
-        → total_size (if b then entry_kept (key, new) ∷ entries_of more else entry_kept first ∷ put (entry_kept (key, new)) (entries_of more))
-        + option_map_or (λ at. size_of (entry_kept (key, at))) (cond b (Some first.1) (lookup (bytes_eq key) more)) 0
-        ≡ total_size (entry_kept first ∷ entries_of more) + size_of (entry_kept (key, new))
-    by true e rest =
-        omega (arith, sum_by-cons size_of (entry_kept first) (entries_of more), sum_by-cons size_of (entry_kept (key, new)) (entries_of more), ap length ((bytes_eq-Decides key first.0).0 e))
-    by false e rest =
-        omega (arith, sum_by-cons size_of (entry_kept first) (entries_of more), sum_by-cons size_of (entry_kept first) (put (entry_kept (key, new)) (entries_of more)), rest)
+-- the size with one entry more
+pub size_more : (kept : List (List ℕ × Kept)) (key : List ℕ) (new : Kept)
+    → total_size (entries_of (kept ++ (key, new) ∷ [])) ≡ total_size (entries_of kept) + size_of (entry_kept (key, new))
+size_more [] key new = omega (arith, sum_by-cons size_of (entry_kept (key, new)) [])
+size_more (first ∷ more) key new =
+    omega (
+      arith,
+      size_more more key new,
+      sum_by-cons size_of (entry_kept first) (entries_of more),
+      sum_by-cons size_of (entry_kept first) (entries_of (more ++ (key, new) ∷ [])),
+    )
 
 -- at most one entry more
 pub length_put : (entry : Entry) (entries : List Entry) → length (put entry entries) ≤ length entries + 1
@@ -123,64 +229,41 @@ length_put entry (first ∷ more) = by (bytes_eq entry.fresh.key first.fresh.key
     by true rest = omega arith
     by false rest = omega (arith, rest)
 
--- the size of one entry more at the front
-pub taken_more : (kept : List (List ℕ × Kept)) (count : ℕ)
-    → total_size (take (suc count) (entries_of kept)) ≡ total_size (take count (entries_of kept)) + option_map_or (λ at. size_of (entry_kept at)) (slice_get kept count) 0
-taken_more [] zero = refl
-taken_more [] (suc count) = refl
-taken_more (first ∷ more) zero = omega (arith, sum_by-cons size_of (entry_kept first) [])
-taken_more (first ∷ more) (suc count) =
-    let rest = taken_more more count in
-    omega (arith, rest, sum_by-cons size_of (entry_kept first) (take (suc count) (entries_of more)), sum_by-cons size_of (entry_kept first) (take count (entries_of more)))
+-- the size without the first
+pub size_first : (kept : List (List ℕ × Kept)) (stored : List ℕ) (at : Kept) → slice_get kept 0 ≡ Some (stored, at)
+    → total_size (entries_of (drop 1 kept)) + size_of (entry_kept (stored, at)) ≡ total_size (entries_of kept)
+size_first [] stored at one = absurd (cc one)
+size_first (first ∷ more) stored at one =
+    let is : first ≡ (stored, at) = ap (λ o. unwrap_or o first) one in
+    omega (arith, sum_by-cons size_of (entry_kept first) (entries_of more), ap (λ e. size_of (entry_kept e)) is)
 
-pub taken_one_more : (kept : List (List ℕ × Kept)) (count : ℕ)
-    → total_size (take (count + 1) (entries_of kept)) ≡ total_size (take count (entries_of kept)) + option_map_or (λ at. size_of (entry_kept at)) (slice_get kept count) 0
-taken_one_more kept count = rw add-one (taken_more kept count)
+pub nothing_first : (kept : List (List ℕ × Kept)) → slice_get kept 0 ≡ None → drop 1 kept ≡ kept
+nothing_first [] none = refl
+nothing_first (first ∷ more) none = absurd (cc none)
 
 -- ---- those at the front that pass a test
 
--- whether what stands at a place passes
-abbrev pub passes_at : {A : Type 0} → (A → Bool) → List A → ℕ → Bool
-passes_at test xs place = option_map_or test (slice_get xs place) false
+-- whether the first passes
+abbrev pub first_passes : {A : Type 0} → (A → Bool) → List A → Bool
+first_passes test xs = option_map_or test (slice_get xs 0) false
 
--- so many pass as stand before the first that doesn't
-front_is : {A : Type 0} (test : A → Bool) (xs : List A) (most place : ℕ) → place ≤ most → ((k : ℕ) → k < place → passes_at test xs k ≡ true)
-    → (place < most → passes_at test xs place ≡ false) → place ≡ prefix_len test (take most xs)
-front_is test [] zero zero within passes stops = refl
-front_is test [] (suc most) zero within passes stops = refl
-front_is test [] most (suc place) within passes stops = absurd (cc (passes zero (omega arith)))
-front_is test (x ∷ xs) zero zero within passes stops = refl
-front_is test (x ∷ xs) zero (suc place) within passes stops = absurd (omega arith)
-front_is test (x ∷ xs) (suc most) zero within passes stops = ap (λ b. cond b (1 + prefix_len test (take most xs)) 0) (sym (stops (omega arith)))
-front_is test (x ∷ xs) (suc most) (suc place) within passes stops =
-    let rest : place ≡ prefix_len test (take most xs) = front_is test xs most place (omega arith) (λ k h. passes (suc k) (omega arith)) (λ h. stops (omega arith)) in
-    let first : test x ≡ true = passes zero (omega arith) in
-    let counted : suc place ≡ 1 + prefix_len test (take most xs) = omega (arith, rest) in
-    counted ∙ ap (λ b. cond b (1 + prefix_len test (take most xs)) 0) (sym first)
+-- where it doesn't, none at the front do
+pub none_pass : {A : Type 0} (test : A → Bool) (xs : List A) (most : ℕ) → first_passes test xs ≡ false → prefix_len test (take most xs) ≡ 0
+none_pass test xs zero fails = refl
+none_pass test [] (suc most) fails = refl
+none_pass test (x ∷ xs) (suc most) fails = ap (λ b. cond b (1 + prefix_len test (take most xs)) 0) fails
 
-front_entries : (test : Entry → Bool) (kept : List (List ℕ × Kept)) (most : ℕ) → prefix_len (λ at. test (entry_kept at)) (take most kept) ≡ prefix_len test (take most (entries_of kept))
-front_entries test [] zero = refl
-front_entries test [] (suc most) = refl
-front_entries test (first ∷ more) zero = refl
-front_entries test (first ∷ more) (suc most) = ap (λ n. cond (test (entry_kept first)) (1 + n) 0) (front_entries test more most)
-
-pub older_are : (test : Entry → Bool) (kept : List (List ℕ × Kept)) (most place : ℕ) → place ≤ most → ((k : ℕ) → k < place → passes_at (λ at. test (entry_kept at)) kept k ≡ true)
-    → (place < most → passes_at (λ at. test (entry_kept at)) kept place ≡ false) → place ≡ prefix_len test (take most (entries_of kept))
-older_are test kept most place within passes stops = front_is (λ at. test (entry_kept at)) kept most place within passes stops ∙ front_entries test kept most
-
--- those that pass are there
-pub passing_within : {A : Type 0} (test : A → Bool) (xs : List A) (place : ℕ) → ((k : ℕ) → k < place → passes_at test xs k ≡ true) → place ≤ length xs
-passing_within test [] zero passes = omega arith
-passing_within test [] (suc place) passes = absurd (cc (passes zero (omega arith)))
-passing_within test (x ∷ xs) zero passes = omega arith
-passing_within test (x ∷ xs) (suc place) passes =
-    let rest : place ≤ length xs = passing_within test xs place (λ k h. passes (suc k) (omega arith)) in omega (arith, rest)
+-- where it does, it counts
+pub one_passes : {A : Type 0} (test : A → Bool) (xs : List A) (most : ℕ) → first_passes test xs ≡ true
+    → prefix_len test (take (suc most) xs) ≡ 1 + prefix_len test (take most (drop 1 xs))
+one_passes test [] most passes = absurd (cc passes)
+one_passes test (x ∷ xs) most passes = ap (λ b. cond b (1 + prefix_len test (take most xs)) 0) passes
 
 -- ---- answers
 
 module _ (key versions : List ℕ) (now ttl : ℕ) (kept : List (List ℕ × Kept)) (old : List Entry) (view : entries_of kept ≡ old) where
-  pub answered_absent : None ≡ position (bytes_eq key) (keys_of kept) → fetched key versions now ttl old ≡ (Miss miss.Absent, old)
-  answered_absent gone = subst (λ entries. fetched key versions now ttl entries ≡ (Miss miss.Absent, entries)) view (fetched_absent key versions now ttl kept (sym gone))
+  pub answered_absent : None ≡ lookup (bytes_eq key) kept → fetched key versions now ttl old ≡ (Miss miss.Absent, old)
+  answered_absent gone = subst (λ entries. fetched key versions now ttl entries ≡ (Miss miss.Absent, entries)) view (fetched_absent key versions now ttl kept (no_place key kept (sym gone)))
 
   pub answered_found : (place : ℕ) (stored : List ℕ) (at : Kept) → Some place ≡ position (bytes_eq key) (keys_of kept) → slice_get kept place ≡ Some (stored, at)
       → (becomes : Judged) → becomes ≡ judged_by at.versions at.expires_at versions (counted_time now) ttl
@@ -210,54 +293,80 @@ shared_tells value expected (Miss miss.Failed) old e same = absurd same
 
 -- ---- an expiry that is moved, an entry that goes
 
--- an entry without its key whose expiry is moved
-abbrev pub kept_until : ℕ → Kept → Kept
-kept_until expiry at = record {
-  versions = at.versions;
-  value = at.value;
-  vars = at.vars;
-  block = at.block;
-  origin = at.origin;
-  written_at = at.written_at;
-  expires_at = Some expiry;
-}
+module _ (key : List ℕ) (kept : List (List ℕ × Kept)) (stored : List ℕ) (at : Kept) (known : Place key kept stored at) where
+  entry_there : slice_get (entries_of kept) known.place ≡ Some (entry_kept (stored, at))
+  entry_there = slice_get-map entry_kept kept known.place ∙ ap (option_map entry_kept) known.stands
 
-module _ (kept : List (List ℕ × Kept)) (place : ℕ) (stored : List ℕ) (at : Kept) (stands : slice_get kept place ≡ Some (stored, at)) where
-  same_value : (again : Kept) → slice_get (values_of kept) place ≡ Some again → again ≡ at
-  same_value again e =
-      let both : Some again ≡ Some at = sym e ∙ slice_get-map (λ p. p.1) kept place ∙ ap (option_map (λ p. p.1)) stands in
-      ap (λ o. unwrap_or o at) both
-
-  pub moved : (again : Kept) (expiry : ℕ) → slice_get (values_of kept) place ≡ Some again
-      → entries_of (set_value_at kept place (kept_until expiry again)) ≡ slice_set (entries_of kept) place (with_expiry expiry (entry_kept (stored, at)))
-  moved again expiry e =
-      entries_set kept place stored at (kept_until expiry again) stands
-      ∙ ap (λ a. slice_set (entries_of kept) place (with_expiry expiry (entry_kept (stored, a)))) (same_value again e)
-
-  entry_there : slice_get (entries_of kept) place ≡ Some (entry_kept (stored, at))
-  entry_there = slice_get-map entry_kept kept place ∙ ap (option_map entry_kept) stands
-
-  pub moved_size : (again : Kept) (expiry : ℕ) → slice_get (values_of kept) place ≡ Some again
-      → total_size (entries_of (set_value_at kept place (kept_until expiry again))) ≡ total_size (entries_of kept)
-  moved_size again expiry e =
+  -- one size comes, and that of what is put away goes
+  pub resized : (new : Kept) → total_size (entries_of (set_value (bytes_eq key) kept new)) + size_of (entry_kept (stored, at)) ≡ total_size (entries_of kept) + size_of (entry_kept (stored, new))
+  resized new =
       let entry = entry_kept (stored, at) in
-      let within = slice_get_within (entries_of kept) place entry entry_there in
-      let was = get_or_from_slice_get (entries_of kept) place entry entry entry_there in
-      let sizes = sum_by-set size_of (entries_of kept) place (with_expiry expiry entry) entry within in
-      let now : total_size (entries_of (set_value_at kept place (kept_until expiry again))) ≡ total_size (slice_set (entries_of kept) place (with_expiry expiry entry)) = ap total_size (moved again expiry e) in
-      omega (arith, sizes, ap size_of was, now)
+      let within = slice_get_within (entries_of kept) known.place entry entry_there in
+      let was = get_or_from_slice_get (entries_of kept) known.place entry entry entry_there in
+      let sizes = sum_by-set size_of (entries_of kept) known.place (entry_kept (stored, new)) entry within in
+      omega (arith, sizes, ap size_of was, ap total_size (known.set new))
 
-  pub moved_length : (again : Kept) (expiry : ℕ) → length (entries_of (set_value_at kept place (kept_until expiry again))) ≡ length (entries_of kept)
-  moved_length again expiry =
-      length-map (set_value_at kept place (kept_until expiry again)) entry_kept ∙ length-set_value_at kept place (kept_until expiry again) ∙ sym (length-map kept entry_kept)
-
-  pub less : total_size (entries_of (remove kept place)) + size_of (entry_kept (stored, at)) ≡ total_size (entries_of kept)
+  -- an entry that goes
+  pub less : total_size (entries_of (remove_entry (bytes_eq key) kept)) + size_of (entry_kept (stored, at)) ≡ total_size (entries_of kept)
   less =
       let entry = entry_kept (stored, at) in
-      let within = slice_get_within (entries_of kept) place entry entry_there in
-      let was = get_or_from_slice_get (entries_of kept) place entry entry entry_there in
-      let sizes = sum_by-remove size_of (entries_of kept) place entry within in
-      omega (arith, sizes, ap size_of was, ap total_size (entries_without kept place))
+      let within = slice_get_within (entries_of kept) known.place entry entry_there in
+      let was = get_or_from_slice_get (entries_of kept) known.place entry entry entry_there in
+      let sizes = sum_by-remove size_of (entries_of kept) known.place entry within in
+      omega (arith, sizes, ap size_of was, ap total_size (entries_removed key kept stored at known))
+
+-- a value that is set leaves as many
+pub set_length : (key : List ℕ) (kept : List (List ℕ × Kept)) (new : Kept) → length (entries_of (set_value (bytes_eq key) kept new)) ≡ length (entries_of kept)
+set_length key kept new =
+    length-map (set_value (bytes_eq key) kept new) entry_kept
+    ∙ sym (length-keys_of (set_value (bytes_eq key) kept new))
+    ∙ ap length (keys-set_value (bytes_eq key) kept new)
+    ∙ length-keys_of kept
+    ∙ sym (length-map kept entry_kept)
+
+-- the list after an expiry was moved where a value was found
+pub set_kept : (key : List ℕ) (kept : List (List ℕ × Kept)) (at : Kept) (expiry : ℕ) (new : List (List ℕ × Kept))
+    → new ≡ option_map_or (λ a. set_value (bytes_eq key) kept (kept_until expiry a)) (lookup (bytes_eq key) kept) kept
+    → lookup (bytes_eq key) kept ≡ Some at → new ≡ set_value (bytes_eq key) kept (kept_until expiry at)
+set_kept key kept at expiry new is one = is ∙ ap (λ o. option_map_or (λ a. set_value (bytes_eq key) kept (kept_until expiry a)) o kept) one
+
+-- the place of a key in the list of entries
+pub place_seen : (key : List ℕ) (kept : List (List ℕ × Kept)) (entries : List Entry) → entries_of kept ≡ entries
+    → place_of key entries ≡ position (bytes_eq key) (keys_of kept)
+place_seen key kept entries view = ap (place_of key) (sym view) ∙ place_kept key kept
+
+-- the entry under a key, by its size
+pub record Under (key : List ℕ) (kept : List (List ℕ × Kept)) (size : ℕ) : Type 0 where
+  pub stored : List ℕ
+  pub at : Kept
+  pub one : lookup (bytes_eq key) kept ≡ Some at
+  pub known : Place key kept stored at
+  pub sized : size ≡ size_of (entry_kept (stored, at))
+
+pub under : (key : List ℕ) (kept : List (List ℕ × Kept)) (size : ℕ) → Some size ≡ option_map (λ at. size_of (entry_kept (key, at))) (lookup (bytes_eq key) kept)
+    → Under key kept size
+under key kept size is = by (lookup (bytes_eq key) kept) refl is
+  where
+    by : (o : Option Kept) → lookup (bytes_eq key) kept ≡ o → Some size ≡ option_map (λ at. size_of (entry_kept (key, at))) o → Under key kept size
+    by None found is = absurd (cc is)
+    by (Some at) found is =
+        let known = place_of_value key kept at found in
+        record {
+          stored = known.0;
+          at = at;
+          one = found;
+          known = known.1;
+          sized = ap (λ o. unwrap_or o size) is ∙ ap (λ k. size_of (entry_kept (k, at))) known.1.same;
+        }
+
+-- and where there is none
+pub none_under : (key : List ℕ) (kept : List (List ℕ × Kept)) → None ≡ option_map (λ at. size_of (entry_kept (key, at))) (lookup (bytes_eq key) kept)
+    → lookup (bytes_eq key) kept ≡ None
+none_under key kept is = by (lookup (bytes_eq key) kept) is
+  where
+    by : (o : Option Kept) → None ≡ option_map (λ at. size_of (entry_kept (key, at))) o → o ≡ None
+    by None is = refl
+    by (Some at) is = absurd (cc is)
 
 -- ---- several answers
 

@@ -1,6 +1,7 @@
 //! Entries in order, found by their keys.
 
-ghost use Rattle.std.specs.Prelude.{◌≡◌, ◌+◌, ◌^◌, ◌<◌, ◌≤◌, [], length, take, drop, remove, false, IfOk, OnOk, OnErr};
+ghost use Rattle.std.specs.Prelude.{◌≡◌, ◌+◌, ◌^◌, ◌<◌, ◌≤◌, [], length, take, drop, remove, slice_get, false, IfOk, OnOk, OnErr};
+ghost use Rattle.std.specs.Option.{option_map_or};
 ghost use Rattle.std.specs.List.{prefix_len};
 ghost use Rattle.doll_entry.specs.declared.judging.TheConstants.{LATEST_TIME};
 ghost use Rattle.doll_shelf.specs.Batches.{is_older};
@@ -10,18 +11,19 @@ ghost use Rattle.doll_shelf.specs.Fetches.{Fetches, HitsOrTells, ReadsAll, any_f
 ghost use Rattle.doll_shelf.specs.Kept.{entry_kept};
 ghost use Rattle.doll_shelf.specs.Shares.{Shares};
 
-use crate::kept::{Kept, first_size, is_older_at, size_kept, size_under};
+use crate::kept::{Kept, is_past, size_kept, size_under};
+use crate::queue::Queue;
 use doll_entry::{Ask, Fetched, Fragment, Judged, Miss, counted_time, judge_kept};
 use doll_key::{KeyText, Versions};
 use doll_text::{Copied, Memory};
-use indexmap::IndexMap;
 use std::alloc::Global;
+use std::hash::RandomState;
 use std::marker::Model;
 
 /// Entries with distinct keys, which contracts see as their list.
 #[derive(Drop)]
 pub struct Entries {
-    map: IndexMap<KeyText, Kept>,
+    queue: Queue,
     /// The sum of their sizes.
     size: u64,
 }
@@ -34,18 +36,18 @@ impl Model for Entries {
 
     ghost Value = { List Entry };
 
-    ghost view = { λ e. entries_of e.map.entries };
+    ghost view = { λ e. entries_of e.queue };
 
-    ghost invariant = { λ e. e.size ≡ total_size (entries_of e.map.entries) };
+    ghost invariant = { λ e. e.size ≡ total_size (entries_of e.queue) };
 }
 
 impl Entries {
-    /// No entries. Takes no memory.
-    pub fn new(alloc: Global) -> Entries
+    /// No entries, for keys that are hashed with these. Takes no memory.
+    pub fn new(keys: RandomState) -> Entries
         ensures { result ≡ [] }
     {
         Entries {
-            map: IndexMap::new(alloc),
+            queue: Queue::new(keys),
             size: 0,
         }
     }
@@ -56,7 +58,7 @@ impl Entries {
         ensures small { result < 2 ^ 63 }
         ensures distinct { AreDistinct self.now }
     {
-        self.map.len()
+        self.queue.len()
     }
 
     /// The sum of their sizes, in bytes.
@@ -80,18 +82,18 @@ impl Entries {
         ensures tells { HitsOrTells (fetched key.now versions.now now ttl self.old).0 result }
         ensures fewer { length self.new ≤ length self.old }
     {
-        let Some((place, _, kept)) = self.map.get_full(key) else {
+        let Some(kept) = self.queue.get(key) else {
             return Fetched::Miss(Miss::Absent);
         };
         match judge_kept(&kept.versions, kept.expires_at, versions, now, ttl) {
             Judged::Live => shared(alloc, &kept.value),
             Judged::Mismatch => Fetched::Miss(Miss::Mismatch),
             Judged::Bump => {
-                self.map[place].expires_at = Some(counted_time(now) + ttl);
+                self.queue.move_expiry(key, counted_time(now) + ttl);
                 Fetched::Miss(Miss::Bumped)
             }
             Judged::Dead => {
-                self.remove(place);
+                self.remove(key);
                 Fetched::Miss(Miss::Dead)
             }
         }
@@ -117,52 +119,86 @@ impl Entries {
         Ok(found)
     }
 
-    /// Removes the entry at a place.
-    fn remove(&mut self, place: usize)
-        ensures { self.new ≡ remove self.old place }
+    /// Removes the entry under a key.
+    fn remove(&mut self, key: &KeyText)
+        ensures { self.new ≡ option_map_or (λ place. remove self.old place) (spec.place_of key.now self.old) self.old }
     {
-        if let Some((key, kept)) = self.map.shift_remove_index(place) {
+        if let Some((key, kept)) = self.queue.remove(key) {
             self.size -= size_kept(&key, &kept);
         }
     }
 
     /// Keeps an entry in the place of the one under its key, else last. A refusal changes nothing.
-    pub fn put(&mut self, key: KeyText, kept: Kept) -> Result<(), Memory>
+    pub fn put(&mut self, alloc: Global, key: KeyText, kept: Kept) -> Result<(), Memory>
         ensures ok { OnOk result (self.new ≡ spec.put (entry_kept (key, kept)) self.old) }
         ensures err { OnErr result (self.new ≡ self.old) }
         ensures more { length self.new ≤ length self.old + 1 }
     {
-        let rest = self.size - size_under(&self.map, &key);
-        // Sizes are of bytes in memory, so a sum that doesn't fit is one for which there is none.
-        let Some(size) = rest.checked_add(size_kept(&key, &kept)) else {
-            return Err(Memory);
-        };
-        self.map.insert(key, kept)?;
-        self.size = size;
+        let size = size_kept(&key, &kept);
+        match size_under(&self.queue, &key) {
+            Some(old) => {
+                self.size = sum(self.size - old, size)?;
+                self.queue.replace(&key, kept);
+            }
+            None => {
+                let size = sum(self.size, size)?;
+                self.queue.push(alloc, key, kept)?;
+                self.size = size;
+            }
+        }
         Ok(())
     }
 
     /// Removes so many of the first entries.
-    pub fn remove_first(&mut self, count: usize)
-        requires { count ≤ length self.old }
+    pub fn remove_first(&mut self, count: u32)
         ensures { self.new ≡ drop count self.old }
     {
-        self.size -= first_size(&self.map, count);
-        self.map.drain(..count);
+        for _ in 0..count {
+            self.pop();
+        }
     }
 
-    /// How many at the front, of the first `most`, are older than an age at a time.
-    pub fn older_count(&self, most: u32, age: Option<u64>, time: u64) -> u32
-        ensures value { result ≡ prefix_len (is_older age time) (take most self.now) }
-        ensures most { result ≤ most }
-        ensures within { result ≤ length self.now }
+    /// Removes those at the front, of the first `most`, that are older than an age at a time, and says how many went.
+    pub fn remove_older(&mut self, most: u32, age: Option<u64>, time: u64) -> u32
+        ensures count { result ≡ prefix_len (is_older age time) (take most self.old) }
+        ensures left { self.new ≡ drop result self.old }
     {
-        for place in 0..most {
-            if !is_older_at(&self.map, place as usize, age, time) {
-                return place;
+        for count in 0..most {
+            if !self.begins_older(age, time) {
+                return count;
             }
+            self.pop();
         }
         most
+    }
+
+    /// Removes the first entry.
+    fn pop(&mut self)
+        ensures { self.new ≡ drop 1 self.old }
+    {
+        if let Some((key, kept)) = self.queue.pop() {
+            self.size -= size_kept(&key, &kept);
+        }
+    }
+
+    /// Whether the first entry is older than an age at a time; not where there is none.
+    fn begins_older(&self, age: Option<u64>, time: u64) -> bool
+        ensures { result ≡ option_map_or (is_older age time) (slice_get self.now 0) false }
+    {
+        match self.queue.first() {
+            Some((_, kept)) => is_past(kept.written_at, age, time),
+            None => false,
+        }
+    }
+}
+
+/// The sum of two sizes. Sizes are of bytes in memory, so a sum that doesn't fit is one for which there is none.
+fn sum(sizes: u64, size: u64) -> Result<u64, Memory>
+    ensures { IfOk result (λ sum. sum ≡ sizes + size) }
+{
+    match sizes.checked_add(size) {
+        Some(sum) => Ok(sum),
+        None => Err(Memory),
     }
 }
 

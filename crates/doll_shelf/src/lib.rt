@@ -4,6 +4,7 @@
 mod entries;
 mod kept;
 pub mod mem_shelf;
+mod queue;
 pub mod settings;
 pub mod shelf;
 

@@ -17,6 +17,7 @@ use doll_entry::{Ask, Fetched, Fresh, counted_time};
 use doll_key::{KeyText, Versions};
 use doll_text::Memory;
 use std::alloc::Global;
+use std::hash::RandomState;
 use std::marker::Model;
 
 /// A shelf over a hashed map in order, which tells its entries and never fails.
@@ -38,14 +39,14 @@ impl Model for MemShelf {
 }
 
 impl MemShelf {
-    /// A shelf with these settings and no entries. Takes no memory.
-    pub fn new(alloc: Global, settings: ShelfSettings) -> MemShelf
+    /// A shelf with these settings and no entries, for keys that are hashed with these. Takes no memory.
+    pub fn new(settings: ShelfSettings, keys: RandomState) -> MemShelf
         requires { AreValid settings }
         ensures { result ≡ record { settings = settings; entries = []; writes = 0 } }
     {
         MemShelf {
             settings,
-            entries: Entries::new(alloc),
+            entries: Entries::new(keys),
             writes: 0,
         }
     }
@@ -105,7 +106,7 @@ impl Shelf for MemShelf {
     {
         self.make_ready(now);
         let (key, kept) = kept_of(fresh, &self.settings, now);
-        self.entries.put(key, kept)?;
+        self.entries.put(alloc, key, kept)?;
         self.writes += 1;
         Ok(())
     }
@@ -116,8 +117,7 @@ impl Shelf for MemShelf {
         ensures writes { self.new.writes ≡ 0 }
         ensures settings { self.new.settings ≡ self.old.settings }
     {
-        let count = removed_count(&self.settings, &self.entries, now);
-        self.entries.remove_first(count as usize);
+        let count = remove_batch(&self.settings, &mut self.entries, now);
         self.writes = 0;
         count
     }
@@ -144,15 +144,17 @@ impl MemShelf {
     }
 }
 
-/// How many of the first entries a batch removes.
-fn removed_count(settings: &ShelfSettings, entries: &Entries, now: u64) -> u32
-    ensures value { result ≡ batch.removed_count settings.now now entries.now }
-    ensures within { result ≤ length entries.now }
+/// Removes a batch from the front, and says how many went.
+fn remove_batch(settings: &ShelfSettings, entries: &mut Entries, now: u64) -> u32
+    ensures removed { result ≡ batch.removed_count settings.now now entries.old }
+    ensures left { entries.new ≡ batch.after_batch settings.now now entries.old }
 {
     if are_over(settings, entries) {
-        return fewer(settings.batch, entries.len());
+        let count = fewer(settings.batch, entries.len());
+        entries.remove_first(count);
+        return count;
     }
-    entries.older_count(settings.batch, settings.max_age, counted_time(now))
+    entries.remove_older(settings.batch, settings.max_age, counted_time(now))
 }
 
 /// The lesser of two numbers, of which the first has 32 bits.

@@ -7,4 +7,4 @@ use Rattle.doll_shelf.proofs.entries.Entries.len.Goals as goal
 
 pub returns-clause-distinct : goal.returns-clause-distinct
 returns-clause-distinct c =
-    subst AreDistinct c.self.view_is (subst (IsDistinct bytes_eq) (sym (keys_seen c.self.inside.map.entries)) c.len.ensures.unique)
+    subst AreDistinct c.self.view_is (subst (IsDistinct bytes_eq) (sym (keys_seen c.self.inside.queue)) c.len.ensures.distinct)
