@@ -2,14 +2,14 @@
 
 ghost use Rattle.std.specs.Prelude.{◌≡◌, IfOk};
 ghost use Rattle.doll_text.specs.Gives.{Gives};
-ghost use Rattle.doll_route.specs.Routes.{AreRoutesOf, IsFoundIn};
+ghost use Rattle.doll_route.specs.Routes.{AreRoutesOf};
 ghost use Rattle.doll_views.specs.Seen.{seen_loaded};
-ghost use Rattle.doll_bundle.specs.Sites.{IsServed, found_page, page_at, site_of};
+ghost use Rattle.doll_bundle.specs.Sites.{IsServed, page_at, site_of};
 
 use crate::commits::table_after;
 use doll_plain::plain_page;
 use doll_records::SharedTable;
-use doll_route::{Found, Routes, split_target};
+use doll_route::{Routes, split_target};
 use doll_schema::Schema;
 use doll_set::TemplateSet;
 use doll_text::{Bytes, Memory};
@@ -47,28 +47,36 @@ impl Site {
         requires { IsServed self.now }
         ensures { IfOk result (λ page. page ≡ page_at self.now target.now) }
     {
-        let (path, query) = split_target(target);
-        match self.routes.find(path)? {
-            Some(found) => self.found_page(alloc, query, &found),
-            None => Ok(None),
-        }
-    }
-
-    /// The page of a route that was found.
-    fn found_page(&self, alloc: Global, query: &str, found: &Found) -> Result<Option<Bytes>, Memory>
-        requires served { IsServed self.now }
-        requires found { IsFoundIn self.now.routes found.now }
-        ensures { IfOk result (λ page. page ≡ found_page self.now query.now found.now) }
-    {
-        let params = self.routes.params(alloc, found.route, query)?;
-        plain_page(
+        site_page(
             alloc,
-            &self.set,
             &self.schema,
             &self.routes,
-            found,
-            &params,
-            self.table.get(),
+            &self.set,
+            &self.table,
+            target,
         )
     }
+}
+
+/// The page of a request's target of the site with these parts, which may be held apart from one another.
+pub fn site_page(
+    alloc: Global,
+    schema: &Schema,
+    routes: &Routes,
+    set: &TemplateSet,
+    table: &SharedTable,
+    target: &str,
+) -> Result<Option<Bytes>, Memory>
+    requires { IsServed
+        (record { schema = schema.now; routes = routes.now; set = set.now; table = table.now }) }
+    ensures { IfOk result (λ page. page ≡ page_at
+        (record { schema = schema.now; routes = routes.now; set = set.now; table = table.now })
+        target.now) }
+{
+    let (path, query) = split_target(target);
+    let Some(found) = routes.find(path)? else {
+        return Ok(None);
+    };
+    let params = routes.params(alloc, found.route, query)?;
+    plain_page(alloc, set, schema, routes, &found, &params, table.get())
 }
