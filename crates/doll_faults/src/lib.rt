@@ -1,6 +1,7 @@
 //! The lines that tell the faults of a set of templates, those of its types and those of its lint.
 #![tactic(auto)]
 
+pub mod laws;
 mod line;
 mod lints;
 mod types;
