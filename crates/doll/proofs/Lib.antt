@@ -1,4 +1,6 @@
 pub mod Alive
 pub mod Answered
+pub mod Faultless
 pub mod Longs
 pub mod Timing
+pub mod Unique

@@ -4,7 +4,7 @@ use Rattle.std.specs.Prelude.{IfSome, nat_lt}
 use Rattle.std.proofs.lemmas.List.{length-replicate}
 use Rattle.doll_base.specs.Inputs.{read_up_to}
 use Rattle.doll_base.specs.declared.input.InputFault.TheVariants.{TooLong}
-use Rattle.doll.specs.Replies.{reply_of, readings_of, names_of, too_long, IsReplyTo}
+use Rattle.doll.specs.Replies.{IsAnswerTo, IsReplyTo, names_of, readings_of, too_long}
 use Rattle.doll.specs.Words.{Command, command_of}
 use Rattle.doll.proofs.Timing.{given_of, given_whole}
 use Rattle.doll_bundle.proofs.ClockReadings.{appended_none}
@@ -14,7 +14,7 @@ some_long : (n : ℕ) → (input : List ℕ) × (length input ≡ n)
 some_long n = (replicate n 0, length-replicate n 0)
 
 -- a longer input is answered so, without a reading
-long_reply : (words : List (List ℕ)) (command : Command) (input : List ℕ) (given : List (Option (List ℕ))) → command_of words ≡ Some command → nat_lt 16777216 (length input) ≡ true → too_long ≡ reply_of words input given []
+long_reply : (words : List (List ℕ)) (command : Command) (input : List ℕ) (given : List (Option (List ℕ))) → command_of words ≡ Some command → nat_lt 16777216 (length input) ≡ true → IsAnswerTo (command_of words) input given [] too_long
 long_reply words command input given plain long = rw (plain, long) refl
 
 long_readings : (words : List (List ℕ)) (command : Command) (input : List ℕ) (given : List (Option (List ℕ))) → command_of words ≡ Some command → nat_lt 16777216 (length input) ≡ true → 0 ≡ readings_of words input given

@@ -12,12 +12,12 @@ use Rattle.doll_views.specs.Forms.{json_refusal}
 use Rattle.doll_views.specs.declared.refusal.Refusal.{Refusal}
 use Rattle.doll_views.specs.declared.refusal.Refusal.TheVariants.{Memory}
 use Rattle.doll.specs.declared.reply.Reply.{Reply}
-use Rattle.doll.specs.Replies.{loaded_reply, names_in, refusal_reply}
+use Rattle.doll.specs.Replies.{IsLoadedReply, names_in, refusal_reply}
 use Rattle.doll.specs.Timed.{AnswersFor, AnswersTimed, IsTold}
 use Rattle.doll.specs.Words.{Command}
 
--- the answer for the readings that were taken
-pub with_clock : {A F : Type 0} (needed : ℕ) (expected : List ℕ → A) (before after : Option (List ℕ)) (readings : List ℕ) (result : Result A F) → Appended before after readings → length readings ≡ needed → IfOk result (λ x. x ≡ expected readings) → AnswersTimed needed expected before after result
+-- an answer for the readings that were taken
+pub with_clock : {A F : Type 0} (needed : ℕ) (expected : List ℕ → A → Type 0) (before after : Option (List ℕ)) (readings : List ℕ) (result : Result A F) → Appended before after readings → length readings ≡ needed → IfOk result (expected readings) → AnswersTimed needed expected before after result
 with_clock needed expected before after readings (Ok x) taken count is = (readings, taken, omega (arith, count), (count, is))
 with_clock needed expected before after readings (Err e) taken count is = (readings, taken, omega (arith, count), tt)
 
@@ -36,7 +36,7 @@ asks_none names before = (0, sym (append-nil before))
 
 -- a bundle whose files are read is answered as it is then
 pub loaded_answer : {X F : Type 0} (u : X → Loaded) (command : Command) (told : Option (List (List ℕ × List ℕ))) (bundle : Bundle) (loaded : X) (before after : Option (List ℕ)) (result : Result Reply F)
-    → GivesFor u told (wanted_names bundle.listing.wanted) (loaded_of bundle) (Ok loaded) → AnswersTimed (readings_needed (Ok (u loaded))) (loaded_reply command (Ok (u loaded))) before after result
+    → GivesFor u told (wanted_names bundle.listing.wanted) (loaded_of bundle) (Ok loaded) → AnswersTimed (readings_needed (Ok (u loaded))) (IsLoadedReply command (Ok (u loaded))) before after result
     → AnswersFor command (Ok bundle) told before after result
 loaded_answer u command told bundle loaded before after result gives timed = (gives.0, gives.1, rw gives.2 timed)
 

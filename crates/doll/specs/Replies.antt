@@ -1,21 +1,28 @@
 -- What the program answers to its words, its input, the files of a folder and the readings of a clock (this project's own).
-use Rattle.std.specs.Prelude.{ℕ, ◌≡◌, ◌≤◌, nat_lt, List, [], ◌∷◌, ◌++◌, length, Option, Result, Ok, Err, codes, IfSome, if◌then◌else◌}
+use Rattle.std.specs.Prelude.{ℕ, ◌≡◌, ◌≤◌, nat_lt, List, [], ◌∷◌, ◌++◌, length, Option, None, Some, Result, Ok, Err, codes, IfSome, if◌then◌else◌}
 use Rattle.std.specs.Option.{option_map_or}
 use Rattle.doll_base.specs.Streams.{Appended, AppendedPart}
 use Rattle.doll_views.specs.Bundles.{Bundle, Loaded, bundle_of, loaded_of}
 use Rattle.doll_views.specs.Digests.{digest_lines}
 use Rattle.doll_views.specs.Files.{AsksFirst, IsGiven, wanted_names}
-use Rattle.doll_views.specs.Missing.{missing_lines, missing_templates}
 use Rattle.doll_views.specs.Refusals.{refusal_line}
 use Rattle.doll_views.specs.declared.refusal.Refusal.{Refusal}
 use Rattle.doll_views.specs.declared.refusal.Refusal.TheVariants as refusal
+use Rattle.doll_route.specs.declared.route.Route.{Route}
+use Rattle.doll_schema.specs.Models.{ModelList}
+use Rattle.doll_set.specs.Sets.{ReadSet}
+use Rattle.doll_types.specs.declared.fault.TypeFault.{TypeFault}
+use Rattle.doll_types.specs.Faults.{AreTypeFaults}
+use Rattle.doll_lint.specs.declared.fault.LintFault.{LintFault}
+use Rattle.doll_lint.specs.Faults.{AreLintFaults}
+use Rattle.doll_faults.specs.Lines.{lint_lines, type_lines}
 use Rattle.doll_bundle.specs.Sites.{page_at, readings_needed, site_of}
 use Rattle.doll_bundle.specs.declared.site.Site.{Site}
 use Rattle.doll.specs.declared.reply.Reply.{Reply}
 use Rattle.doll.specs.declared.reply.TheConstants.{LONGEST_INPUT}
 use Rattle.doll.specs.declared.status.Status.{Status}
 use Rattle.doll.specs.declared.status.Status.TheVariants as status
-use Rattle.doll.specs.Words.{Command, Plain, Digests, command_of}
+use Rattle.doll.specs.Words.{Command, Plain, Lint, Digests, command_of}
 
 -- a text and a line end
 abbrev pub line : List ℕ → List ℕ
@@ -48,34 +55,62 @@ refusal_reply refusal.Memory = not_built
 abbrev pub page_reply : Site → List ℕ → Reply
 page_reply site path = option_map_or (λ page. record { status = status.Done; text = page }) (page_at site path) (unknown path)
 
--- the same, where these templates are missing: they are told where there are any
-abbrev pub checked_reply : List (List ℕ) → Site → List ℕ → Reply
-checked_reply [] site path = page_reply site path
-checked_reply (name ∷ names) site path = record { status = status.Untyped; text = missing_lines (name ∷ names) }
+-- what tells faults of types
+abbrev pub untyped : List TypeFault → Reply
+untyped faults = record { status = status.Untyped; text = type_lines faults }
 
--- the page of a path, where each template that a route names is there
-abbrev pub plain_reply : Site → List ℕ → Reply
-plain_reply site path = checked_reply (missing_templates site.set site.routes) site path
+-- the page of a path of a site with these faults of types: they are told where there are any
+abbrev pub plain_reply : Site → List ℕ → List TypeFault → Reply
+plain_reply site path [] = page_reply site path
+plain_reply site path (fault ∷ faults) = untyped (fault ∷ faults)
+
+-- `clean`, or these faults of a lint where there are any
+abbrev pub lint_reply : List LintFault → Reply
+lint_reply [] = record { status = status.Done; text = line (codes "clean") }
+lint_reply (fault ∷ faults) = record { status = status.Unclean; text = lint_lines (fault ∷ faults) }
 
 -- the digests of the templates
 abbrev pub digests_reply : Site → Reply
 digests_reply site = record { status = status.Done; text = digest_lines site.set }
 
-abbrev pub site_reply : Command → Site → Reply
-site_reply (Plain path) site = plain_reply site path
-site_reply Digests site = digests_reply site
+-- The reply tells exactly the faults of the types of a site's set, where there are any, else it is the page of a path.
+abbrev pub IsPlainReply : Site → List ℕ → Reply → Type 0
+IsPlainReply site path reply = (faults : List TypeFault) × AreTypeFaults site.set site.schema site.routes faults × (reply ≡ plain_reply site path faults)
+
+-- The reply tells exactly the faults of a set's lint, where there are any, else that it is clean.
+abbrev pub IsLinted : ReadSet → ModelList → List Route → Reply → Type 0
+IsLinted set schema routes reply = (faults : List LintFault) × AreLintFaults set schema routes faults × (reply ≡ lint_reply faults)
+
+-- The reply tells these faults of types, where there are any, else it is that of the lint.
+abbrev pub TellsLint : Site → List TypeFault → Reply → Type 0
+TellsLint site [] reply = IsLinted site.set site.schema site.routes reply
+TellsLint site (fault ∷ faults) reply = reply ≡ untyped (fault ∷ faults)
+
+-- The reply tells exactly the faults of the types of a site's set, where there are any, else it is that of its lint.
+abbrev pub IsLintReply : Site → Reply → Type 0
+IsLintReply site reply = (faults : List TypeFault) × AreTypeFaults site.set site.schema site.routes faults × TellsLint site faults reply
+
+-- the reply to a command: `digests` asks for no types
+abbrev pub IsSiteReply : Command → Site → Reply → Type 0
+IsSiteReply (Plain path) site reply = IsPlainReply site path reply
+IsSiteReply Lint site reply = IsLintReply site reply
+IsSiteReply Digests site reply = reply ≡ digests_reply site
+
+-- there is one reply to a command, since a set's faults are one list
+abbrev pub SitesHaveOneReply : Type 0
+SitesHaveOneReply = (command : Command) (site : Site) (one other : Reply) → IsSiteReply command site one → IsSiteReply command site other → one ≡ other
 
 -- ---- what is asked of a bundle
 
 -- of its site, if that is made
-abbrev pub made_reply : Command → Result Site Refusal → Reply
-made_reply command (Ok site) = site_reply command site
-made_reply command (Err why) = refusal_reply why
+abbrev pub IsMadeReply : Command → Result Site Refusal → Reply → Type 0
+IsMadeReply command (Ok site) reply = IsSiteReply command site reply
+IsMadeReply command (Err why) reply = reply ≡ refusal_reply why
 
 -- of a bundle with its files, where the clock gives these readings
-abbrev pub loaded_reply : Command → Result Loaded Refusal → List ℕ → Reply
-loaded_reply command (Ok loaded) readings = made_reply command (site_of loaded readings)
-loaded_reply command (Err why) readings = refusal_reply why
+abbrev pub IsLoadedReply : Command → Result Loaded Refusal → List ℕ → Reply → Type 0
+IsLoadedReply command (Ok loaded) readings reply = IsMadeReply command (site_of loaded readings) reply
+IsLoadedReply command (Err why) readings reply = reply ≡ refusal_reply why
 
 -- a bundle with its files, where the folder gives these bytes
 abbrev pub loaded_in : Result Bundle Refusal → List (Option (List ℕ)) → Result Loaded Refusal
@@ -89,23 +124,22 @@ names_in (Err why) = []
 
 -- ---- what is asked of an input
 
--- the bundle that it is, too long or not
-abbrev pub input_reply : Command → List ℕ → List (Option (List ℕ)) → List ℕ → Reply
-input_reply command input given readings =
-    if nat_lt LONGEST_INPUT (length input) then too_long else loaded_reply command (loaded_in (bundle_of input) given) readings
+-- the bundle that it is, or the refusal of one that is too long
+abbrev pub bundle_within : List ℕ → Result Bundle Refusal
+bundle_within input = if nat_lt LONGEST_INPUT (length input) then Err refusal.TooLong else bundle_of input
 
--- the answer to words and an input, where the folder gives these bytes and the clock these readings
-abbrev pub reply_of : List (List ℕ) → List ℕ → List (Option (List ℕ)) → List ℕ → Reply
-reply_of words input given readings = option_map_or (λ command. input_reply command input given readings) (command_of words) usage
+-- the answer to what the words ask for of an input, where the folder gives these bytes and the clock these readings
+abbrev pub IsAnswerTo : Option Command → List ℕ → List (Option (List ℕ)) → List ℕ → Reply → Type 0
+IsAnswerTo (Some command) input given readings reply = IsLoadedReply command (loaded_in (bundle_within input) given) readings reply
+IsAnswerTo None input given readings reply = reply ≡ usage
 
 -- the names that the folder is asked for: those of the bundle, where it comes to its files
 abbrev pub names_of : List (List ℕ) → List ℕ → List (List ℕ)
-names_of words input = option_map_or (λ command. if nat_lt LONGEST_INPUT (length input) then [] else names_in (bundle_of input)) (command_of words) []
+names_of words input = option_map_or (λ command. names_in (bundle_within input)) (command_of words) []
 
 -- how many readings the answer takes: one for each commit of the bundle that says no time, where it comes to its commits
 abbrev pub readings_of : List (List ℕ) → List ℕ → List (Option (List ℕ)) → ℕ
-readings_of words input given =
-    option_map_or (λ command. if nat_lt LONGEST_INPUT (length input) then 0 else readings_needed (loaded_in (bundle_of input) given)) (command_of words) 0
+readings_of words input given = option_map_or (λ command. readings_needed (loaded_in (bundle_within input) given)) (command_of words) 0
 
 -- ---- what goes into an answer
 
@@ -127,7 +161,7 @@ pub record IsReplyTo (asking : Asking) (reply : Reply) : Type 0 where
   pub gave : IsGiven asking.files (names_of asking.words input) given
   pub taken : Appended asking.before asking.after readings
   pub count : length readings ≡ readings_of asking.words input given
-  pub is : reply ≡ reply_of asking.words input given readings
+  pub is : IsAnswerTo (command_of asking.words) input given readings reply
 
 -- The clock gave no more readings than the answer takes.
 pub record ReadsFor (asking : Asking) : Type 0 where

@@ -1,7 +1,8 @@
-//! The program: a site's bundle comes on standard input, its files are in the folder, and the page of a path or the digests of
-//! its templates go to standard output.
+//! The program: a site's bundle comes on standard input, its files are in the folder, and the page of a path, the faults of its
+//! templates or their digests go to standard output.
 #![tactic(auto)]
 
+mod laws;
 mod reply;
 mod status;
 mod tool;

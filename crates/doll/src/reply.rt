@@ -1,6 +1,6 @@
 //! What the program answers to its words and its input.
 
-ghost use Rattle.std.specs.Prelude.{◌≡◌, ◌≢◌, ◌≤◌, codes, length, Ok, Err, IfOk, IsErrOf};
+ghost use Rattle.std.specs.Prelude.{◌≡◌, ◌≢◌, ◌≤◌, codes, length, [], Ok, Err, IfOk, IsErrOf};
 ghost use Rattle.serde_json.specs.View.{view};
 ghost use Rattle.doll_base.specs.Faults.{HasCause, KeepsCount};
 ghost use Rattle.doll_route.specs.Routes.{AreRoutesOf};
@@ -18,12 +18,15 @@ use crate::status::Status;
 use crate::unanswered::Unanswered;
 use crate::words::Command;
 use doll_base::{Clock, Folder};
-use doll_bundle::{Site, read_clock, untimed};
+use doll_bundle::{Site, read_clock, site_page, untimed};
+use doll_faults::{lint_lines, type_lines};
+use doll_lint::checked::{LintRefusal, lint};
+use doll_lint::fault::LintFault;
+use doll_records::SharedTable;
+use doll_route::Routes;
 use doll_text::{Bytes, Memory};
-use doll_views::{
-    Bundle, Loaded, Refusal, digest_lines, json_of, json_refusal, missing_lines, missing_templates,
-    refusal_line,
-};
+use doll_types::{TypeFault, TypeRefusal, Typed, type_set};
+use doll_views::{Bundle, Loaded, Refusal, digest_lines, json_of, json_refusal, refusal_line};
 use serde_json::Value;
 use std::alloc::Global;
 
@@ -101,13 +104,31 @@ fn refusal_reply(alloc: Global, why: Refusal) -> Result<Reply, Unanswered>
     }
 }
 
-/// The page of a path of a site.
-fn page_reply(alloc: Global, site: &Site, path: &str) -> Result<Reply, Memory>
-    requires { IsServed site.now }
-    ensures value { IfOk result (λ reply. reply ≡ spec.page_reply site.now path.now) }
+/// The page of a path of a site whose templates are typed.
+fn page_reply(
+    alloc: Global,
+    typed: &Typed,
+    routes: &Routes,
+    table: &SharedTable,
+    path: &str,
+) -> Result<Reply, Memory>
+    requires { IsServed (record {
+      schema = typed.now.schema;
+      routes = routes.now;
+      set = typed.now.set;
+      table = table.now;
+    }) }
+    ensures value { IfOk result (λ reply. reply ≡ spec.page_reply
+        (record {
+          schema = typed.now.schema;
+          routes = routes.now;
+          set = typed.now.set;
+          table = table.now;
+        })
+        path.now) }
     ensures status { IfOk result (λ reply. IsAnswer reply.status) }
 {
-    match site.page(alloc, path)? {
+    match site_page(alloc, typed.schema(), routes, typed.set(), table, path)? {
         Some(text) => Ok(Reply {
             status: Status::Done,
             text,
@@ -116,20 +137,78 @@ fn page_reply(alloc: Global, site: &Site, path: &str) -> Result<Reply, Memory>
     }
 }
 
-/// The page of a path of a site, where each template that a route names is there.
-fn plain_reply(alloc: Global, site: &Site, path: &str) -> Result<Reply, Memory>
-    requires { IsServed site.now }
-    ensures value { IfOk result (λ reply. reply ≡ spec.plain_reply site.now path.now) }
+/// What tells faults of types.
+fn untyped(alloc: Global, faults: &[TypeFault]) -> Result<Reply, Memory>
+    ensures value { IfOk result (λ reply. reply ≡ spec.untyped faults.now) }
     ensures status { IfOk result (λ reply. IsAnswer reply.status) }
 {
-    let missing = missing_templates(alloc, &site.set, &site.routes)?;
-    if missing.is_empty() {
-        return page_reply(alloc, site, path);
-    }
     Ok(Reply {
         status: Status::Untyped,
-        text: Bytes::from_vec(missing_lines(alloc, missing.as_slice())?),
+        text: Bytes::from_vec(type_lines(alloc, faults)?),
     })
+}
+
+/// The page of a path of a site, or the faults of its types.
+fn plain_reply(alloc: Global, site: Site, path: &str) -> Result<Reply, Memory>
+    requires { IsServed site }
+    ensures value { IfOk result (spec.IsPlainReply site path.now) }
+    ensures status { IfOk result (λ reply. IsAnswer reply.status) }
+{
+    let Site {
+        schema,
+        routes,
+        set,
+        table,
+    } = site;
+    match type_set(alloc, set, schema, &routes) {
+        Ok(typed) => page_reply(alloc, &typed, &routes, &table, path),
+        Err(TypeRefusal::Faults(faults)) => untyped(alloc, faults.as_slice()),
+        Err(TypeRefusal::Memory) => Err(Memory),
+    }
+}
+
+/// The word that tells that nothing is wrong.
+fn clean(alloc: Global) -> Result<Reply, Memory>
+    ensures value { IfOk result (λ reply. reply ≡ spec.lint_reply []) }
+    ensures status { IfOk result (λ reply. IsAnswer reply.status) }
+{
+    line_reply(Status::Done, Vec::from_slice(alloc, b"clean")?)
+}
+
+/// What tells faults of a lint.
+fn unclean(alloc: Global, faults: &[LintFault]) -> Result<Reply, Memory>
+    requires some { faults.now ≢ [] }
+    ensures value { IfOk result (λ reply. reply ≡ spec.lint_reply faults.now) }
+    ensures status { IfOk result (λ reply. IsAnswer reply.status) }
+{
+    Ok(Reply {
+        status: Status::Unclean,
+        text: Bytes::from_vec(lint_lines(alloc, faults)?),
+    })
+}
+
+/// The faults of a typed set's lint, or `clean`.
+fn linted(alloc: Global, typed: Typed) -> Result<Reply, Memory>
+    ensures value { IfOk result (spec.IsLinted typed.set typed.schema typed.routes) }
+    ensures status { IfOk result (λ reply. IsAnswer reply.status) }
+{
+    match lint(alloc, typed) {
+        Ok(_) => clean(alloc),
+        Err(LintRefusal::Faults(faults)) => unclean(alloc, faults.as_slice()),
+        Err(LintRefusal::Memory) => Err(Memory),
+    }
+}
+
+/// The faults of a site's types, or those of its lint, or `clean`.
+fn lint_reply(alloc: Global, site: Site) -> Result<Reply, Memory>
+    ensures value { IfOk result (spec.IsLintReply site) }
+    ensures status { IfOk result (λ reply. IsAnswer reply.status) }
+{
+    match type_set(alloc, site.set, site.schema, &site.routes) {
+        Ok(typed) => linted(alloc, typed),
+        Err(TypeRefusal::Faults(faults)) => untyped(alloc, faults.as_slice()),
+        Err(TypeRefusal::Memory) => Err(Memory),
+    }
 }
 
 /// The digests of a site's templates.
@@ -144,15 +223,15 @@ fn digests_reply(alloc: Global, site: &Site) -> Result<Reply, Memory>
 }
 
 /// What is asked of a site.
-fn site_reply(alloc: Global, command: Command<'_>, site: &Site) -> Result<Reply, Memory>
-    requires { IsServed site.now }
-    ensures value { IfOk result (λ reply.
-        reply ≡ spec.site_reply (seen_command command.entry) site.now) }
+fn site_reply(alloc: Global, command: Command<'_>, site: Site) -> Result<Reply, Memory>
+    requires { IsServed site }
+    ensures value { IfOk result (spec.IsSiteReply (seen_command command.entry) site) }
     ensures status { IfOk result (λ reply. IsAnswer reply.status) }
 {
     match command {
         Command::Plain(path) => plain_reply(alloc, site, path),
-        Command::Digests => digests_reply(alloc, site),
+        Command::Lint => lint_reply(alloc, site),
+        Command::Digests => digests_reply(alloc, &site),
     }
 }
 
@@ -164,13 +243,13 @@ fn made_reply(
     readings: &[u64],
 ) -> Result<Reply, Unanswered>
     requires { AreRoutesOf loaded.schema loaded.routes }
-    ensures value { IfOk result (λ reply. reply ≡ spec.made_reply
+    ensures value { IfOk result (spec.IsMadeReply
         (seen_command command.entry) (site_of (seen_loaded loaded.entry) readings.now)) }
     ensures alive { result ≢ Err unanswered.Failed }
     ensures status { IfOk result (λ reply. IsAnswer reply.status) }
 {
     match Site::of(alloc, loaded, readings) {
-        Ok(site) => Ok(site_reply(alloc, command, &site)?),
+        Ok(site) => Ok(site_reply(alloc, command, site)?),
         Err(why) => refusal_reply(alloc, why),
     }
 }
@@ -186,7 +265,7 @@ fn loaded_reply<C: Clock>(
     requires { AreRoutesOf loaded.schema loaded.routes }
     ensures value { AnswersTimed
         (readings_needed (Ok (seen_loaded loaded.entry)))
-        (spec.loaded_reply (seen_command command.entry) (Ok (seen_loaded loaded.entry)))
+        (spec.IsLoadedReply (seen_command command.entry) (Ok (seen_loaded loaded.entry)))
         (C.readings clock.old) (C.readings clock.new) result }
     ensures alive { result ≢ Err unanswered.Failed }
     ensures status { IfOk result (λ reply. IsAnswer reply.status) }

@@ -14,8 +14,10 @@ pub enum Status {
     BundleRefused,
     /// The bundle has a part that isn't read yet.
     NotBuilt,
-    /// A route names a template that isn't there.
+    /// The templates have faults of types.
     Untyped,
+    /// A cached block reads beyond its key, or may share it.
+    Unclean,
     /// No route has the path, or its record isn't there.
     UnknownPath,
     /// Reading the source or a file of the folder failed.
@@ -39,6 +41,7 @@ impl Status {
             Status::BundleRefused => 3,
             Status::NotBuilt => 4,
             Status::Untyped => 4,
+            Status::Unclean => 4,
             Status::UnknownPath => 5,
             Status::ReadFailed => 7,
             Status::WriteFailed => 8,

@@ -65,7 +65,7 @@ fn reply_to<F: Folder, S: Source, C: Clock>(
 }
 
 /// Runs the program over these words. `plain PATH` reads a bundle from the source and its files from the folder, and writes the
-/// page of the path; `digests` writes the digests of its templates.
+/// page of the path; `lint` writes the faults of its templates, or that they have none; `digests` writes their digests.
 pub fn run_tool<F: Folder, S: Source, K: Sink, C: Clock>(
     alloc: Global,
     words: &[String],

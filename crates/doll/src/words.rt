@@ -8,6 +8,8 @@ ghost use Rattle.doll.specs.Words as spec;
 pub enum Command<'a> {
     /// The page of a path.
     Plain(&'a str),
+    /// The faults of the templates.
+    Lint,
     /// The digests of all templates.
     Digests,
 }
@@ -27,7 +29,9 @@ pub fn command_of(words: &[String]) -> Option<Command<'_>>
 fn only_word(word: &str) -> Option<Command<'_>>
     ensures { option_map spec.seen_command result ≡ spec.command_of (word.now ∷ []) }
 {
-    if word == "digests" {
+    if word == "lint" {
+        Some(Command::Lint)
+    } else if word == "digests" {
         Some(Command::Digests)
     } else {
         None

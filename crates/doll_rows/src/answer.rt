@@ -6,7 +6,7 @@ ghost use Rattle.doll_bundle.specs.Sites.{IsServed};
 use doll_base::{ListClock, MemFolder};
 use doll_bundle::{Site, read_clock, untimed};
 use doll_text::{Bytes, Memory};
-use doll_views::{Bundle, Refusal, digest_lines, missing_lines, missing_templates, refusal_line};
+use doll_views::{Bundle, Refusal, digest_lines, refusal_line};
 use serde_json::Value;
 use std::alloc::Global;
 
@@ -22,16 +22,12 @@ fn site_of(alloc: Global, bundle: &Value, folder: MemFolder) -> Result<Site, Ref
     Site::of(alloc, loaded, readings.as_slice())
 }
 
-/// The digests of a site, or the lines of the templates that are missing, or the page of a path, or `unknown`.
+/// The digests of a site, or the page of a path, or `unknown`.
 fn site_answer(alloc: Global, site: &Site, path: &str) -> Result<Vec<u8>, Memory>
     requires { IsServed site.now }
 {
     if path == "digests" {
         return digest_lines(alloc, &site.set);
-    }
-    let missing = missing_templates(alloc, &site.set, &site.routes)?;
-    if !missing.is_empty() {
-        return missing_lines(alloc, missing.as_slice());
     }
     match site.page(alloc, path)? {
         Some(page) => Ok(Vec::from_slice(alloc, page.as_slice())?),

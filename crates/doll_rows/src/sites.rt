@@ -33,7 +33,6 @@ const ROUTES: &str = r##"[
 [{"schema":PRODUCT,"views":{"q.html.erb":"[<%= q %>][<%= q.nil? %>]"},"routes":[{"path":"/","template":"q","params":["q"]}]},"/?q=%3Cb%3E","[&lt;b&gt;][false]"],
 [{"schema":PRODUCT,"commits":[{"at":1,"changes":[{"create":"product","values":{"name":"P"}}]}],"views":{"p.html.erb":"<%= product.name %> <%= b %><%= a %>"},"routes":[{"path":"/p/:id","template":"p","record":"product","params":["a","b"]}]},"/p/1?b=2&a=1","P 21"],
 [{"schema":PRODUCT,"views":{"a.html.erb":""}},"/","unknown"],
-[{"schema":PRODUCT,"views":{"a.html.erb":"","y.html.erb":""},"routes":[{"path":"/a","template":"z"},{"path":"/b","template":"x"},{"path":"/c","template":"z"},{"path":"/d","template":"a"}]},"/d","x:0: MissingTemplate\nz:0: MissingTemplate\n"],
 [{"schema":PRODUCT,"views":{"a.html.erb":""},"routes":[{"path":"/a","template":"a"},{"path":"/commit","template":"a"}]},"/a","bundle routes 1: Reserved"],
 [{"schema":PRODUCT,"views":{"a.html.erb":"","a_b.html.erb":"","a/c.html.erb":"<%= render \"x/y\" %>"}},"/","bundle views 1: MissingPartial"],
 [{"schema":PRODUCT,"views":{"b.html.erb":"<%= render \"a/p\" %>","a.html.erb":"","a/_p.html.erb":"<%= render \"q\" %>","a/_q.html.erb":"<%= render \"a/p\" %>"}},"/","bundle views 1: Cycle"],

@@ -3,7 +3,6 @@ pub mod Digests
 pub mod Faults
 pub mod Files
 pub mod Forms
-pub mod Missing
 pub mod Refusals
 pub mod Seen
 pub mod Sets

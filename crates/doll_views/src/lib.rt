@@ -9,13 +9,11 @@ mod digests;
 mod faults;
 mod files;
 mod form;
-mod missing;
 pub mod refusal;
 mod sets;
 pub mod views;
 
 pub use bundle::{Bundle, Loaded, commit_refusal, json_of};
 pub use digests::digest_lines;
-pub use missing::{missing_lines, missing_templates};
 pub use refusal::{BundlePart, Kind, Refusal, json_refusal, refusal_line};
 pub use views::{FileName, Listing, NamedFile, Source};
