@@ -27,15 +27,15 @@ const PAGES: [(&str, &str); 18] = [
         "<%= product.colour + shop %>",
         "a/b:0: UnknownStep colour\n",
     ),
-    ("<%= product.price + q %>", "a/b:0: Mismatch \n"),
-    ("<%= product.size %>", "a/b:0: Mismatch \n"),
-    ("<%= -q %>", "a/b:0: Mismatch \n"),
-    ("<%= true < false %>", "a/b:0: Mismatch \n"),
-    ("<%= product == product.games %>", "a/b:0: Mismatch \n"),
+    ("<%= product.price + q %>", "a/b:0: Mismatch\n"),
+    ("<%= product.size %>", "a/b:0: Mismatch\n"),
+    ("<%= -q %>", "a/b:0: Mismatch\n"),
+    ("<%= true < false %>", "a/b:0: Mismatch\n"),
+    ("<%= product == product.games %>", "a/b:0: Mismatch\n"),
     // The faults of a page by their places.
     (
         "<%= product %><%= product.games %><%= shop %>",
-        "a/b:0: NotPrintable \na/b:14: NotPrintable \na/b:34: UnknownVariable shop\n",
+        "a/b:0: NotPrintable\na/b:14: NotPrintable\na/b:34: UnknownVariable shop\n",
     ),
     // The test of an `elsif` is told at the `elsif`.
     (
@@ -49,16 +49,16 @@ const PAGES: [(&str, &str); 18] = [
     // What goes round a faulty list isn't typed.
     (
         "<% q.each do |x| %><%= shop %><% end %>",
-        "a/b:0: NotList \n",
+        "a/b:0: NotList\n",
     ),
     // What a key with a fault goes round is typed.
     (
         "<% cache product.games do %><%= shop %><% end %>",
-        "a/b:0: BadKey \na/b:28: UnknownVariable shop\n",
+        "a/b:0: BadKey\na/b:28: UnknownVariable shop\n",
     ),
     (
         "<% cache [product, product.name] do %><% end %>",
-        "a/b:0: BadKey \n",
+        "a/b:0: BadKey\n",
     ),
     // Of one tag and kind the faults go by name; a part of a key has its expression's fault.
     (
@@ -90,7 +90,7 @@ const PARTIALS: [(&str, &str, &str); 7] = [
     (
         "<%= render \"a/p\", n: 1 %><%= render \"a/p\", n: q %>",
         "x<%= n + 1 %>",
-        "a/_p:1: Mismatch \n",
+        "a/_p:1: Mismatch\n",
     ),
     (
         "<%= render \"a/p\", n: 1 %>",
@@ -107,12 +107,12 @@ const PARTIALS: [(&str, &str, &str); 7] = [
     (
         "<%= render \"a/p\", n: shop, m: product.size %>",
         "<%= shop %>",
-        "a/b:0: UnknownVariable shop\na/b:0: Mismatch \n",
+        "a/b:0: UnknownVariable shop\na/b:0: Mismatch\n",
     ),
     (
         "<%= render partial: \"a/p\", collection: product %>",
         "<%= shop %>",
-        "a/b:0: NotList \n",
+        "a/b:0: NotList\n",
     ),
 ];
 

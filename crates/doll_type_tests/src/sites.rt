@@ -1,6 +1,6 @@
 //! Sites of several pages.
 
-use crate::typing::{told, typed};
+use crate::typing::{MODELS, told, typed};
 use doll_types::Reached;
 use std::test::Fail;
 
@@ -42,7 +42,7 @@ fn times_reached(reached: &[Reached]) -> [usize; 5] {
 
 #[test]
 fn a_site_is_typed_with_what_its_pages_reach(rt: HostRuntime) -> Result<(), Fail> {
-    let typed = typed(rt.alloc(), ROUTES, &FILES).ok_or("not read")?;
+    let typed = typed(rt.alloc(), MODELS, ROUTES, &FILES).ok_or("not read")?;
     let typed = typed.ok().ok_or("not typed")?;
     assert_eq!(rt; times_reached(typed.reached()), [1; 5]);
     assert_eq!(rt; typed.calls().len(), 5);
@@ -52,7 +52,7 @@ fn a_site_is_typed_with_what_its_pages_reach(rt: HostRuntime) -> Result<(), Fail
 #[test]
 fn a_route_without_its_template_is_told_at_its_start(rt: HostRuntime) -> Result<(), Fail> {
     let told = told(rt.alloc(), ROUTES, &FILES[1..4]).ok_or("not read")?;
-    let wanted = b"comments/show:0: MissingTemplate \nproducts/show:0: MissingTemplate \n";
+    let wanted = b"comments/show:0: MissingTemplate\nproducts/show:0: MissingTemplate\n";
     assert_eq!(rt; told.as_slice(), wanted.as_slice());
     Ok(())
 }

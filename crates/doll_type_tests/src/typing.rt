@@ -2,24 +2,26 @@
 
 use doll_base::ViewFile;
 use doll_digest::{Md5Hash, Registry};
+use doll_faults::{lint_lines, type_lines};
+use doll_lint::checked::{LintRefusal, lint};
 use doll_route::Routes;
 use doll_schema::Schema;
 use doll_set::{SetFault, TemplateSet};
 use doll_text::{Memory, Name, Text};
-use doll_types::{TypeFault, TypeKind, TypeRefusal, Typed, type_set};
+use doll_types::{TypeRefusal, Typed, type_set};
 use serde_json::Value;
-use std::alloc::{AllocError, Global};
+use std::alloc::Global;
 
 /// Products with their games, and comments with their replies.
-const MODELS: &str =
+pub const MODELS: &str =
     r#"{"models":[{"name":"product","plural":"products","attributes":[{"name":"name","kind":"text"},{"name":"price","kind":"integer"}],"has_many":[{"name":"games","model":"game","inverse":"product","dependent":"destroy"}]},{"name":"game","plural":"games","attributes":[{"name":"name","kind":"text"}],"belongs_to":[{"name":"product","model":"product","touch":true}]},{"name":"comment","plural":"comments","attributes":[{"name":"body","kind":"text"}],"belongs_to":[{"name":"parent","model":"comment","touch":true,"null":true}],"has_many":[{"name":"replies","model":"comment","inverse":"parent"}]}]}"#;
 
 fn schema_in(alloc: Global, json: &Value) -> Option<Schema> {
     Schema::read(alloc, json).ok()
 }
 
-fn schema(alloc: Global) -> Option<Schema> {
-    match Value::from_slice(alloc, MODELS.as_bytes()) {
+fn schema(alloc: Global, models: &str) -> Option<Schema> {
+    match Value::from_slice(alloc, models.as_bytes()) {
         Ok(json) => schema_in(alloc, &json),
         Err(_) => None,
     }
@@ -57,55 +59,47 @@ fn set(alloc: Global, pairs: &[(&str, &str)]) -> Result<TemplateSet, SetFault> {
     TemplateSet::read(alloc, files.as_slice(), &mut registry)
 }
 
-/// What typing says of the site with these routes and files; nothing where it can't be read.
+/// What typing says of the site with these models, routes and files; nothing where it can't be read.
 pub fn typed(
     alloc: Global,
+    models: &str,
     text: &str,
     pairs: &[(&str, &str)],
 ) -> Option<Result<Typed, TypeRefusal>> {
-    let schema = schema(alloc)?;
+    let schema = schema(alloc, models)?;
     let routes = routes(alloc, text, &schema)?;
     let set = set(alloc, pairs).ok()?;
     Some(type_set(alloc, set, schema, &routes))
 }
 
-/// The word for a kind.
-fn word(kind: &TypeKind) -> &'static str {
-    match kind {
-        TypeKind::MissingTemplate => "MissingTemplate",
-        TypeKind::UnknownVariable(_) => "UnknownVariable",
-        TypeKind::UnknownStep(_) => "UnknownStep",
-        TypeKind::Mismatch => "Mismatch",
-        TypeKind::NotPrintable => "NotPrintable",
-        TypeKind::NotList => "NotList",
-        TypeKind::BadKey => "BadKey",
-    }
-}
-
-/// The template, the place, the kind and its name, as a line.
-fn line(alloc: Global, fault: &TypeFault) -> Result<Vec<u8>, AllocError> {
-    let at = fault.at;
-    let word = word(&fault.kind);
-    let mut line = Vec::from_slice(alloc, fault.template.as_bytes())?;
-    line.extend_from_slice(format!(in alloc; ":{at}: {word} ")?.as_bytes())?;
-    line.extend_from_slice(fault.kind.name())?;
-    line.push(b'\n')?;
-    Ok(line)
-}
-
-fn lines(alloc: Global, faults: &[TypeFault]) -> Result<Vec<u8>, AllocError> {
-    let mut lines = Vec::new(alloc);
-    for fault in faults {
-        lines.extend_from_slice(line(alloc, fault)?.as_slice())?;
-    }
-    Ok(lines)
-}
-
 /// A line for each fault of a site, none where it is typed; nothing where it can't be read or memory ran out.
 pub fn told(alloc: Global, text: &str, pairs: &[(&str, &str)]) -> Option<Vec<u8>> {
-    match typed(alloc, text, pairs)? {
+    match typed(alloc, MODELS, text, pairs)? {
         Ok(_) => Some(Vec::new(alloc)),
-        Err(TypeRefusal::Faults(faults)) => lines(alloc, faults.as_slice()).ok(),
+        Err(TypeRefusal::Faults(faults)) => type_lines(alloc, faults.as_slice()).ok(),
+        Err(TypeRefusal::Memory) => None,
+    }
+}
+
+/// A line for each fault of a lint, none where the set is clean; nothing where memory ran out.
+fn linted(alloc: Global, typed: Typed) -> Option<Vec<u8>> {
+    match lint(alloc, typed) {
+        Ok(_) => Some(Vec::new(alloc)),
+        Err(LintRefusal::Faults(faults)) => lint_lines(alloc, faults.as_slice()).ok(),
+        Err(LintRefusal::Memory) => None,
+    }
+}
+
+/// A line for each fault of a site's types, where there are any, else one for each of its lint.
+pub fn lint_told(
+    alloc: Global,
+    models: &str,
+    text: &str,
+    pairs: &[(&str, &str)],
+) -> Option<Vec<u8>> {
+    match typed(alloc, models, text, pairs)? {
+        Ok(typed) => linted(alloc, typed),
+        Err(TypeRefusal::Faults(faults)) => type_lines(alloc, faults.as_slice()).ok(),
         Err(TypeRefusal::Memory) => None,
     }
 }
