@@ -1,6 +1,6 @@
 -- What a key is made of can be told from its text.
 use Rattle.std.proofs.Common.{◌≡◌, ◌<◌, ◌≤◌, ◌^◌, ℕ, suc, Bool, true, false, ◌&&◌, ◌||◌, cond, List, [], ◌∷◌, ◌++◌, length, get_or, drop, append_assoc, All, Option, Some, None, Result, Ok, refl, sym, ap, ◌∙◌, arith}
-use Rattle.std.specs.Prelude.{codes, ℤ, pos, negsuc, ⊤, ◌==◌}
+use Rattle.std.specs.Prelude.{codes, ℤ, pos, negsuc, ◌==◌}
 use Rattle.std.specs.Int.Signed.{mag}
 use Rattle.std.specs.Fmt.{decimal, signed_decimal}
 use Rattle.std.specs.List.{AllByRecursion, list_all, onto_first}
@@ -28,13 +28,14 @@ use Rattle.doll_key.specs.declared.components.Component.TheVariants as component
 use Rattle.doll_key.specs.declared.escapes.TheConstants.{ESCAPED}
 use Rattle.doll_key.specs.Components.{component_text, components_text, escaped, id_text, value_text}
 use Rattle.doll_key.specs.Keys.{key_prefix}
+use Rattle.doll_key.specs.Reading.{EndsAt, IsNot}
 use Rattle.doll_key.specs.Uniqueness.{IsComponent, IsId, IsValue, OneKey}
 
-abbrev tail : List ℕ → List ℕ
+abbrev pub tail : List ℕ → List ℕ
 tail [] = []
 tail (x ∷ xs) = xs
 
-abbrev first : List ℕ → ℕ
+abbrev pub first : List ℕ → ℕ
 first l = get_or l 0 0
 
 both : (a b : Bool) → (a && b) ≡ true → (a ≡ true) × (b ≡ true)
@@ -43,21 +44,12 @@ both false b e = absurd (cc e)
 
 -- ---- up to a byte
 
--- another byte than this
-abbrev IsNot : ℕ → ℕ → Type 0
-IsNot stop b = b ≡ stop → ⊥
-
--- an end, or this byte
-abbrev EndsAt : ℕ → List ℕ → Type 0
-EndsAt stop [] = ⊤
-EndsAt stop (b ∷ bs) = b ≡ stop
-
 no_end : (stop y : ℕ) (r rest : List ℕ) → EndsAt stop r → IsNot stop y → r ≡ y ∷ rest → ⊥
 no_end stop y [] rest ends other e = absurd (cc e)
 no_end stop y (b ∷ bs) rest ends other e = other (sym (ap first e) ∙ ends)
 
 -- what stands before a byte that isn't in it, and behind it
-up_to : (stop : ℕ) (xs ys r s : List ℕ) → All (IsNot stop) xs → All (IsNot stop) ys → EndsAt stop r → EndsAt stop s → xs ++ r ≡ ys ++ s → (xs ≡ ys) × (r ≡ s)
+pub up_to : (stop : ℕ) (xs ys r s : List ℕ) → All (IsNot stop) xs → All (IsNot stop) ys → EndsAt stop r → EndsAt stop s → xs ++ r ≡ ys ++ s → (xs ≡ ys) × (r ≡ s)
 up_to stop [] [] r s of_x of_y end_r end_s e = (refl, e)
 up_to stop [] (y ∷ ys) r s of_x of_y end_r end_s e = absurd (no_end stop y r (ys ++ s) end_r (All-head (IsNot stop) y ys of_y) e)
 up_to stop (x ∷ xs) [] r s of_x of_y end_r end_s e = absurd (no_end stop x s (xs ++ r) end_s (All-head (IsNot stop) x xs of_x) (sym e))
@@ -66,7 +58,7 @@ up_to stop (x ∷ xs) (y ∷ ys) r s of_x of_y end_r end_s e =
     let here : x ≡ y = ap first e in
     ((λ i. here i ∷ rest.0 i), rest.1)
 
-up_to_length : (xs ys r s : List ℕ) → length xs ≡ length ys → xs ++ r ≡ ys ++ s → (xs ≡ ys) × (r ≡ s)
+pub up_to_length : (xs ys r s : List ℕ) → length xs ≡ length ys → xs ++ r ≡ ys ++ s → (xs ≡ ys) × (r ≡ s)
 up_to_length [] [] r s same e = (refl, e)
 up_to_length [] (y ∷ ys) r s same e = absurd (omega (arith, same))
 up_to_length (x ∷ xs) [] r s same e = absurd (omega (arith, same))
@@ -124,7 +116,7 @@ joined_plain (x ∷ xs) all = by (is_slash x) refl all (joined_plain xs)
         let parts = onto_plain x (segments xs) (omega (arith, length-slice_split is_slash xs)) h in
         All-cons (IsNot 58) x xs parts.0 (rest parts.1)
 
-path_plain : (path : List ℕ) → is_virtual_path path ≡ true → All (IsNot 58) path
+pub path_plain : (path : List ℕ) → is_virtual_path path ≡ true → All (IsNot 58) path
 unfolding is_virtual_path
 path_plain path e = joined_plain path (segments_plain (segments path) (both _ _ (both _ _ e).0).0)
 
@@ -141,10 +133,10 @@ digits_first (d ∷ ds) some all = (omega (arith, digit_from_value d all.0), ome
 decimal_plain : (n : ℕ) → n < 2 ^ 64 → All (IsNot 47) (decimal n)
 decimal_plain n fits = digits_plain (decimal n) (decimal_is_IsNumeral n fits).0.1
 
-decimal_first : (n : ℕ) → n < 2 ^ 64 → (48 ≤ first (decimal n)) × (first (decimal n) ≤ 57)
+pub decimal_first : (n : ℕ) → n < 2 ^ 64 → (48 ≤ first (decimal n)) × (first (decimal n) ≤ 57)
 decimal_first n fits = digits_first (decimal n) (decimal_is_IsNumeral n fits).0.0 (decimal_is_IsNumeral n fits).0.1
 
-int_first : (z : ℤ) → mag z < 2 ^ 63 → (45 ≤ first (signed_decimal z)) × (first (signed_decimal z) ≤ 57)
+pub int_first : (z : ℤ) → mag z < 2 ^ 63 → (45 ≤ first (signed_decimal z)) × (first (signed_decimal z) ≤ 57)
 int_first (pos n) fits = (omega (arith, decimal_first n (omega arith)), omega (arith, decimal_first n (omega arith)))
 int_first (negsuc n) fits = (omega arith, omega arith)
 
@@ -158,12 +150,12 @@ slash_escaped : should_percent_encode ESCAPED 47 ≡ true
 unfolding should_percent_encode
 slash_escaped = refl
 
-escaped_plain : (text : List ℕ) → All (IsNot 47) (escaped text)
+pub escaped_plain : (text : List ℕ) → All (IsNot 47) (escaped text)
 unfolding escaped
 escaped_plain text =
     All-percent_encode (IsNot 47) ESCAPED text (λ b kept e. absurd (cc (sym slash_escaped ∙ sym (ap (should_percent_encode ESCAPED) e) ∙ kept))) (λ b digit e. grind arith)
 
-escaped_same : (a b : List ℕ) → IsBytes a → IsBytes b → escaped a ≡ escaped b → a ≡ b
+pub escaped_same : (a b : List ℕ) → IsBytes a → IsBytes b → escaped a ≡ escaped b → a ≡ b
 unfolding escaped
 escaped_same a b of_a of_b e =
     sym (round_trip ESCAPED a refl (All-from_get_or IsByte a 0 (λ i within. of_a i))) ∙ ap percent_decode e ∙ round_trip ESCAPED b refl (All-from_get_or IsByte b 0 (λ i within. of_b i))
@@ -173,24 +165,24 @@ escaped_same a b of_a of_b e =
 nil_plain : All (IsNot 47) (codes "nil")
 nil_plain = search (All-cons, All-nil, arith)
 
-id_plain : (id : Option ℕ) → IsId id → All (IsNot 47) (id_text id)
+pub id_plain : (id : Option ℕ) → IsId id → All (IsNot 47) (id_text id)
 id_plain (Some id) fits = decimal_plain id (omega arith)
 id_plain None fits = nil_plain
 
-id_same : (a b : Option ℕ) → IsId a → IsId b → id_text a ≡ id_text b → a ≡ b
+pub id_same : (a b : Option ℕ) → IsId a → IsId b → id_text a ≡ id_text b → a ≡ b
 id_same (Some a) (Some b) of_a of_b e = ap Some (decimal_injective a b (omega arith) (omega arith) e)
 id_same (Some a) None of_a of_b e = absurd (omega (arith, ap first e, decimal_first a (omega arith)))
 id_same None (Some b) of_a of_b e = absurd (omega (arith, ap first e, decimal_first b (omega arith)))
 id_same None None of_a of_b e = refl
 
-value_plain : (v : Value) → IsValue v → All (IsNot 47) (value_text v)
+pub value_plain : (v : Value) → IsValue v → All (IsNot 47) (value_text v)
 value_plain value.Nil of_v = nil_plain
 value_plain (value.Bool true) of_v = search (All-cons, All-nil, arith)
 value_plain (value.Bool false) of_v = search (All-cons, All-nil, arith)
 value_plain (value.Int number) of_v = int_plain number of_v
 value_plain (value.Text text) of_v = All-cons (IsNot 47) 39 (escaped text) (λ e. omega (arith, e)) (escaped_plain text)
 
-value_same : (a b : Value) → IsValue a → IsValue b → value_text a ≡ value_text b → a ≡ b
+pub value_same : (a b : Value) → IsValue a → IsValue b → value_text a ≡ value_text b → a ≡ b
 value_same value.Nil value.Nil of_a of_b e = refl
 value_same value.Nil (value.Bool true) of_a of_b e = absurd (omega (arith, ap first e))
 value_same value.Nil (value.Bool false) of_a of_b e = absurd (omega (arith, ap first e))
@@ -217,15 +209,15 @@ value_same (value.Text m) (value.Bool false) of_a of_b e = absurd (omega (arith,
 value_same (value.Text m) (value.Int n) of_a of_b e = absurd (omega (arith, ap first e, int_first n of_b))
 value_same (value.Text m) (value.Text n) of_a of_b e = ap value.Text (escaped_same m n of_a of_b (ap tail e))
 
-name_word : (name : List ℕ) → is_name name ≡ true → is_word name ≡ true
+pub name_word : (name : List ℕ) → is_name name ≡ true → is_word name ≡ true
 unfolding is_name
 name_word name e = (both _ _ (both _ _ e).0).1
 
-plural_plain : (name : List ℕ) → is_name name ≡ true → All (IsNot 47) name
+pub plural_plain : (name : List ℕ) → is_name name ≡ true → All (IsNot 47) name
 plural_plain name e = word_without 47 refl refl name (name_word name e)
 
 -- a plural begins with a lower-case letter
-plural_first : (name rest : List ℕ) → is_word name ≡ true → (97 ≤ first (name ++ rest)) × (first (name ++ rest) ≤ 122)
+pub plural_first : (name rest : List ℕ) → is_word name ≡ true → (97 ≤ first (name ++ rest)) × (first (name ++ rest) ≤ 122)
 plural_first [] rest e = absurd (cc e)
 plural_first (b ∷ bs) rest e =
     let lower = (both (is_lower b) (list_all is_word_byte bs) e).0 in (grind (arith, nat_tests), grind (arith, nat_tests))
@@ -254,7 +246,7 @@ first_component (component.Scalar v) (component.Record q j) r s of_a of_b end_r 
 first_component (component.Literal t) (component.Scalar w) r s of_a of_b end_r end_s e = absurd (omega (arith, ap first e))
 first_component (component.Scalar v) (component.Literal u) r s of_a of_b end_r end_s e = absurd (omega (arith, ap first e))
 
-components_end : (cs : List Component) → EndsAt 47 (components_text cs)
+pub components_end : (cs : List Component) → EndsAt 47 (components_text cs)
 components_end [] = tt
 components_end (c ∷ cs) = refl
 
@@ -269,12 +261,12 @@ all_components (x ∷ xs) (y ∷ ys) of_x of_y e =
 
 -- ---- keys
 
-same_bytes : (a b : List ℕ) → IsBytes a → IsBytes b → hex_digits a ≡ hex_digits b → a ≡ b
+pub same_bytes : (a b : List ℕ) → IsBytes a → IsBytes b → hex_digits a ≡ hex_digits b → a ≡ b
 same_bytes a b a_bytes b_bytes e =
     let read : (let given : Result (List ℕ) FromHexError = Ok a in given ≡ Ok b) = sym (decode_of-encode_lower a a_bytes) ∙ ap decode_of e ∙ decode_of-encode_lower b b_bytes in
     ap (λ r. result_unwrap_or r a) read
 
-text_before : (path digest rest : List ℕ) → key_prefix path digest ++ rest ≡ codes "views/" ++ (path ++ 58 ∷ (hex_digits digest ++ rest))
+pub text_before : (path digest rest : List ℕ) → key_prefix path digest ++ rest ≡ codes "views/" ++ (path ++ 58 ∷ (hex_digits digest ++ rest))
 text_before path digest rest =
     append_assoc (codes "views/" ++ path) (58 ∷ hex_digits digest) rest ∙ append_assoc (codes "views/") path (58 ∷ (hex_digits digest ++ rest))
 

@@ -1,3 +1,4 @@
 pub mod Components
 pub mod Keys
+pub mod Reading
 pub mod Uniqueness

@@ -4,8 +4,10 @@
 pub mod components;
 mod escapes;
 pub mod parts;
+mod reading;
 pub mod texts;
 
 pub use components::{Component, Components, append_components};
 pub use parts::{KeyParts, key_prefix, key_text, one_key};
+pub use reading::read_key;
 pub use texts::{KeyText, Versions};
