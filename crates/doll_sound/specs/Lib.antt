@@ -1,0 +1,4 @@
+pub mod Keys
+pub mod Sites
+pub mod Fragments
+pub mod Entries
