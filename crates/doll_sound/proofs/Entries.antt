@@ -8,7 +8,7 @@ use Rattle.doll_journal.specs.declared.change.Commit.{Commit}
 use Rattle.doll_records.specs.Histories.{IsHistory, last_moment, made_on, moment_at, table_at, table_up_to}
 use Rattle.doll_records.proofs.Places.{moments_tell_places}
 use Rattle.doll_table.specs.Tables.{empty_table}
-use Rattle.doll_sound.specs.Entries.{IsOrigin, SoundIsShown, SoundStays}
+use Rattle.doll_sound.specs.Entries.{IsOrigin, ShownIsSound, SoundIsShown, SoundStays}
 use Rattle.doll_sound.proofs.Fragments.{same_bytes}
 
 -- ---- origins
@@ -37,6 +37,21 @@ table_there : (schema : ModelList) (history : List Commit) (origin place : ℕ) 
 table_there schema history origin place is within at =
     subst (λ o. table_up_to schema history o ≡ table_at schema history place) at (moments_tell_places schema history place is within).1
 
+-- the moment of a place is an origin
+place_origin : (history : List Commit) (place origin : ℕ) → place ≤ length history → origin ≡ moment_at history place → IsOrigin history origin
+place_origin history zero origin within at = inl (at ∙ none_before history)
+place_origin history (suc k) origin within at =
+    inr (k, omega (arith, within, length-map history (λ (c : Commit). c.moment)), sym (last_at 0 history k origin (omega (arith, within))) ∙ sym at)
+
+pub shown_is_sound : ShownIsSound
+shown_is_sound set schema routes history place table block fresh is within at shown from = record {
+  origin = place_origin history place fresh.origin within from;
+  table = table;
+  table_is = table_there schema history fresh.origin place is within (sym from) ∙ at;
+  block = block;
+  shown = shown;
+}
+
 -- ---- histories that grow
 
 origin_stays : (history more : List Commit) (origin : ℕ) → IsOrigin history origin → IsOrigin (history ++ more) origin
@@ -61,12 +76,7 @@ sound_stays set schema routes history more fresh is longer sound = record {
   table = sound.table;
   table_is = table_stays schema history more fresh.origin is longer sound.origin ∙ sound.table_is;
   block = sound.block;
-  reached = sound.reached;
-  tree = sound.tree;
-  template = sound.template;
-  number = sound.number;
-  key = sound.key;
-  value = sound.value;
+  shown = sound.shown;
 }
 
 -- ---- what is shown
@@ -76,5 +86,5 @@ sound_is_shown set schema routes history fresh site is sound place table block v
     let from = origin_place history fresh.origin sound.origin in
     let there = table_there schema history fresh.origin from.0 is from.1 from.2 in
     same_bytes set schema routes history site is place from.0 table sound.table block sound.block vars fresh.vars fresh.key fresh.versions asks
-    (record { within = from.1; table_is = sym there ∙ sound.table_is; reached = sound.reached; key = sound.key })
-    ∙ sound.value
+    (record { within = from.1; table_is = sym there ∙ sound.table_is; reached = sound.shown.reached; key = sound.shown.key })
+    ∙ sound.shown.value

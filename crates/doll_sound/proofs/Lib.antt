@@ -5,3 +5,5 @@ pub mod Counting
 pub mod Blocks
 pub mod Fragments
 pub mod Entries
+pub mod Read
+pub mod ReadSets

@@ -1,9 +1,10 @@
 //! Fragments that are kept: the keys of blocks over a table, and that one key with the same versions stands for one fragment.
 #![tactic(auto)]
 
-ghost use Rattle.doll_sound.specs.Entries.{SoundIsShown, SoundStays};
+ghost use Rattle.doll_sound.specs.Entries.{ShownIsSound, SoundIsShown, SoundStays};
 ghost use Rattle.doll_sound.specs.Fragments.{SameBytes};
 ghost use Rattle.doll_sound.specs.Keys.{KeysTellTemplates};
+ghost use Rattle.doll_sound.specs.Sites.{SchemasHavePlurals, SetsHavePaths};
 
 /// Keys with equal texts, of whichever sets, name one path and one digest.
 pub fn keys_tell_templates()
@@ -16,6 +17,11 @@ pub fn same_bytes()
     ensures { SameBytes }
 {}
 
+/// What a block shows over the table at a place of a history is sound for it, with the moment of the place as its origin.
+pub fn shown_is_sound()
+    ensures { ShownIsSound }
+{}
+
 /// What is sound for a history stays sound when commits follow.
 pub fn sound_stays()
     ensures { SoundStays }
@@ -24,4 +30,14 @@ pub fn sound_stays()
 /// What is sound is just what any page is shown that asks by its key and its versions, before its origin or behind it.
 pub fn sound_is_shown()
     ensures { SoundIsShown }
+{}
+
+/// In a schema that was read a plural names one model, and is a name.
+pub fn schemas_have_plurals()
+    ensures { SchemasHavePlurals }
+{}
+
+/// In a set that was read each template has a virtual path and a digest.
+pub fn sets_have_paths()
+    ensures { SetsHavePaths }
 {}
