@@ -72,4 +72,5 @@ AreComponents components = AllByRecursion IsComponent components
 -- components that were made of the front of a text, and what is left of it: whatever has this text goes on behind them with what is left
 pub record IsMade (text : List ℕ) (made : List Component) (rest : List ℕ) : Type 0 where
   pub are : AreComponents made
-  pub only : (all : List Component) → AreComponents all → components_text all ≡ text → (more : List Component) × AreComponents more × (all ≡ made ++ more) × (components_text more ≡ rest)
+  pub only : (all : List Component) → AreComponents all → components_text all ≡ text
+      → (more : List Component) × AreComponents more × (all ≡ made ++ more) × (components_text more ≡ rest)

@@ -93,7 +93,8 @@ fn path_in(text: &[u8]) -> Option<(&[u8], Digest, &[u8])>
 
 /// The only digest with whose digits a text may begin, and what stands behind them.
 fn digest_in(text: &[u8]) -> Option<(Digest, &[u8])>
-    ensures { Finds (λ x. IsDigest x.0) digest_text text.now (option_map (λ x. (x.0, x.1.now)) result) }
+    ensures { Finds (λ x. IsDigest x.0) digest_text text.now
+        (option_map (λ x. (x.0, x.1.now)) result) }
 {
     if text.len() < DIGITS {
         return None;
