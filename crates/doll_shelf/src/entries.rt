@@ -78,7 +78,8 @@ impl Entries {
         ttl: u64,
     ) -> Fetched
         requires { ttl ≤ LATEST_TIME }
-        ensures found { Fetches (fetched key.now versions.now now ttl self.old) result self.old self.new }
+        ensures found { Fetches (fetched key.now versions.now now ttl self.old)
+            result self.old self.new }
         ensures tells { HitsOrTells (fetched key.now versions.now now ttl self.old).0 result }
         ensures fewer { length self.new ≤ length self.old }
     {
@@ -121,7 +122,8 @@ impl Entries {
 
     /// Removes the entry under a key.
     fn remove(&mut self, key: &KeyText)
-        ensures { self.new ≡ option_map_or (λ place. remove self.old place) (spec.place_of key.now self.old) self.old }
+        ensures { self.new ≡ option_map_or (remove self.old)
+            (spec.place_of key.now self.old) self.old }
     {
         if let Some((key, kept)) = self.queue.remove(key) {
             self.size -= size_kept(&key, &kept);

@@ -73,7 +73,8 @@ pub fn size_kept(key: &KeyText, kept: &Kept) -> u64
 
 /// The size of the entry under a key, if there is one.
 pub fn size_under(queue: &Queue, key: &KeyText) -> Option<u64>
-    ensures { result ≡ option_map (λ kept. size_of (entry_kept (key.now, kept))) (lookup (bytes_eq key.now) queue.now) }
+    ensures { result ≡ option_map (λ kept. size_of (entry_kept (key.now, kept)))
+        (lookup (bytes_eq key.now) queue.now) }
 {
     match queue.get(key) {
         Some(kept) => Some(size_kept(key, kept)),

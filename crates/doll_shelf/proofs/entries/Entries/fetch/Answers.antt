@@ -64,4 +64,4 @@ returns-in-Dead-clause-found c =
     let known = place_of_value c.args.key.now c.self.inside.queue c.in-Some.kept.now (sym c.in-Some.ensures) in
     let e = answered_found c.args.key.now c.args.versions.now c.args.now c.args.ttl c.self.inside.queue c.args.self.now c.self.view_is known.1.place known.0 c.in-Some.kept.now (sym known.1.found) known.1.stands becomes.Dead c.in-Dead.ensures in
     let there = place_seen c.args.key.now c.self.inside.queue c.args.self.now c.self.view_is ∙ known.1.found in
-    (sym (ap (λ p. p.0) e), c.remove.ensures ∙ ap (λ o. option_map_or (λ place. remove c.args.self.now place) o c.args.self.now) there ∙ sym (ap (λ p. p.1) e))
+    (sym (ap (λ p. p.0) e), c.remove.ensures ∙ ap (λ o. option_map_or (remove c.args.self.now) o c.args.self.now) there ∙ sym (ap (λ p. p.1) e))

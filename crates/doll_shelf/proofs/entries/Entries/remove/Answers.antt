@@ -29,7 +29,7 @@ returns-in-Some c =
     ap entries_of c.in-Some.ensures.left
     ∙ entries_removed c.args.key.now c.self.inside.queue c.in-Some.key c.in-Some.kept known
     ∙ ap (λ entries. remove entries known.place) c.self.view_is
-    ∙ sym (ap (λ o. option_map_or (λ place. remove c.args.self.now place) o c.args.self.now) there)
+    ∙ sym (ap (λ o. option_map_or (remove c.args.self.now) o c.args.self.now) there)
 
 pub returns-in_default : goal.returns-in_default
 returns-in_default c =
@@ -37,4 +37,4 @@ returns-in_default c =
     let there = place_seen c.args.key.now c.self.inside.queue c.args.self.now c.self.view_is ∙ no_place c.args.key.now c.self.inside.queue none.1 in
     ap entries_of (c.in_default.ensures.left ∙ none.0)
     ∙ c.self.view_is
-    ∙ sym (ap (λ o. option_map_or (λ place. remove c.args.self.now place) o c.args.self.now) there)
+    ∙ sym (ap (λ o. option_map_or (remove c.args.self.now) o c.args.self.now) there)
