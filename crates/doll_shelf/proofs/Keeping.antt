@@ -7,11 +7,11 @@ use Rattle.std.specs.List.{position_or_len, prefix_len, remove, slice_set}
 use Rattle.std.specs.Map.{keys_of, lookup, lookup_entry, remove_entry, set_value}
 use Rattle.std.specs.Option.{option_map, option_map_or}
 use Rattle.std.specs.Str.{bytes_eq}
-use Rattle.std.proofs.lemmas.List.{append-nil, drop_more, length-map, take-append-drop}
+use Rattle.std.proofs.lemmas.List.{append-nil, drop_more, length-map}
 use Rattle.std.proofs.lemmas.Map.{keys-set_value}
 use Rattle.std.proofs.lemmas.Map.Entries.{length-keys_of}
 use Rattle.std.proofs.Math.ListN.{drop_of_length-le}
-use Rattle.std.proofs.lemmas.List.Sums.{sum_by-append, sum_by-cons, sum_by-remove, sum_by-set}
+use Rattle.std.proofs.lemmas.List.Sums.{sum_by-cons, sum_by-remove, sum_by-set}
 use Rattle.std.proofs.lemmas.Option.{get_or_from_slice_get, slice_get-map, slice_get_within}
 use Rattle.std.proofs.lemmas.Slice.Eq.{bytes_eq-Decides}
 use Rattle.doll_entry.specs.declared.entry.Entry.{Entry}
@@ -229,18 +229,6 @@ length_put entry (first ∷ more) = by (bytes_eq entry.fresh.key first.fresh.key
     by true rest = omega arith
     by false rest = omega (arith, rest)
 
--- the size without the first
-pub size_first : (kept : List (List ℕ × Kept)) (stored : List ℕ) (at : Kept) → slice_get kept 0 ≡ Some (stored, at)
-    → total_size (entries_of (drop 1 kept)) + size_of (entry_kept (stored, at)) ≡ total_size (entries_of kept)
-size_first [] stored at one = absurd (cc one)
-size_first (first ∷ more) stored at one =
-    let is : first ≡ (stored, at) = ap (λ o. unwrap_or o first) one in
-    omega (arith, sum_by-cons size_of (entry_kept first) (entries_of more), ap (λ e. size_of (entry_kept e)) is)
-
-pub nothing_first : (kept : List (List ℕ × Kept)) → slice_get kept 0 ≡ None → drop 1 kept ≡ kept
-nothing_first [] none = refl
-nothing_first (first ∷ more) none = absurd (cc none)
-
 -- ---- those at the front that pass a test
 
 -- whether the first passes
@@ -408,12 +396,8 @@ all_made asks at now made old current done sofar =
     subst (λ answers. ReadsAll asks now answers old current) (append-nil made)
     (sofar [] current (subst (λ left. ReadsAll left now [] current current) (sym nothing) refl))
 
--- ---- keys, and those at the front that go
+-- ---- keys
 
 pub keys_seen : (kept : List (List ℕ × Kept)) → map (λ entry. entry.fresh.key) (entries_of kept) ≡ keys_of kept
 keys_seen [] = refl
 keys_seen (first ∷ more) = ap (λ keys. first.0 ∷ keys) (keys_seen more)
-
-pub cut_size : (count : ℕ) (entries : List Entry) → total_size (take count entries) + total_size (drop count entries) ≡ total_size entries
-cut_size count entries =
-    sym (sum_by-append size_of (take count entries) (drop count entries)) ∙ ap total_size (take-append-drop count entries)
