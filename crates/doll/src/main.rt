@@ -1,7 +1,8 @@
 //! The program: a site's bundle comes on standard input, its files are in the folder, and the page of a path, the faults of its
-//! templates or their digests go to standard output.
+//! templates or their digests go to standard output. What is refused is explained on standard error.
 #![tactic(auto)]
 
+mod explained;
 mod laws;
 mod reply;
 mod status;
@@ -9,9 +10,11 @@ mod tool;
 mod unanswered;
 mod words;
 
+use crate::explained::explained;
 use crate::status::Status;
 use crate::tool::run_tool;
-use doll_base::{DirFolder, StdSink, StdSource, SysClock};
+use doll_base::{DirFolder, StdSink, StdSource, SysClock, write_whole};
+use doll_explain::{KeptClock, KeptFolder, KeptSource};
 use std::process::ExitCode;
 use std::{env, io};
 
@@ -23,22 +26,30 @@ fn main(rt: HostRuntime) -> ExitCode {
     }
 }
 
-/// Runs the program over the process's words and streams. An error is want of memory.
+/// Runs the program over the process's words and streams, and writes the explanation of a refusal to standard error. An error is
+/// want of memory.
 fn status_of(rt: &HostRuntime) -> io::Result<Status> {
     let alloc = rt.alloc();
     let words = words_of(rt)?;
-    let mut folder = DirFolder::new(rt.clone()?, String::from_str(alloc, ".")?);
-    let mut source = StdSource::new(rt.stdin());
+    let folder = DirFolder::new(rt.clone()?, String::from_str(alloc, ".")?);
+    let mut folder = KeptFolder::new(alloc, folder);
+    let mut source = KeptSource::new(alloc, StdSource::new(rt.stdin()));
     let mut sink = StdSink::new(rt.stdout());
-    let mut clock = SysClock::new(rt.clone()?);
-    Ok(run_tool(
+    let mut clock = KeptClock::new(alloc, SysClock::new(rt.clone()?));
+    let status = run_tool(
         alloc,
         words.as_slice(),
         &mut folder,
         &mut source,
         &mut sink,
         &mut clock,
-    ))
+    );
+    let mut errors = StdSink::new(rt.stderr());
+    if let Some(text) = explained(alloc, status, words.as_slice(), &folder, &source, &clock) {
+        // A failed write of it changes nothing.
+        let _ = write_whole(&mut errors, text.as_bytes());
+    }
+    Ok(status)
 }
 
 /// The process's words behind its name. Where one isn't UTF-8 there are none: such words are none of the forms.

@@ -1,0 +1,19 @@
+//! Explanations of refusals: where in a site something is wrong, what, and what to write instead.
+//!
+//! `explain` makes the text of an answer from what was answered, by the calls that answered. `KeptSource`, `KeptFolder` and
+//! `KeptClock` pass on what a program is given, and keep it for that.
+#![tactic(auto)]
+
+pub mod answers;
+mod commits;
+pub mod kept;
+mod lints;
+mod paths;
+mod report;
+mod schema;
+mod sets;
+mod types;
+mod words;
+
+pub use answers::{Answer, Answered, explain};
+pub use kept::{KeptClock, KeptFolder, KeptSource};
