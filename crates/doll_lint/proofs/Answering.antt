@@ -21,28 +21,28 @@ use Rattle.doll_lint.specs.Blocks.{Block, key_paths, shape_of}
 use Rattle.doll_lint.specs.Faults.{AreLintFaults, IsBlock, IsLintFault, block_needs, is_met, need_fault, shared_fault}
 use Rattle.doll_lint.specs.Found.{all_blocks, block_faults, note_of, reached_blocks, unmet}
 use Rattle.doll_lint.specs.Order.{AreInOrder}
-use Rattle.doll_lint.specs.Shared.{all_shared, may_share, same_part, same_shape, shared_by, shared_fault_of, shared_with}
+use Rattle.doll_lint.specs.Shared.{AreThose, all_shared, may_share, same_part, same_shape, shared_by, shared_fault_of, shared_with}
 
 -- ---- lists
 
-none_among : {X : Type 0} {C : Type 0} (x : X) → Contains [] x → C
+pub none_among : {X : Type 0} {C : Type 0} (x : X) → Contains [] x → C
 none_among x h = absurd (omega (arith, h.1))
 
-first_is : {X : Type 0} (x : X) → Contains (x ∷ []) x
+pub first_is : {X : Type 0} (x : X) → Contains (x ∷ []) x
 first_is x = (0, omega arith, refl)
 
-only_is : {X : Type 0} (x y : X) → Contains (x ∷ []) y → y ≡ x
+pub only_is : {X : Type 0} (x y : X) → Contains (x ∷ []) y → y ≡ x
 only_is x y (zero, within, same) = sym same
 only_is x y (suc k, within, same) = absurd (omega (arith, within))
 
-from_flat : {F X : Type 0} (go : F → List X) (xs : List F) (one : X) → Contains (flat_map go xs) one → (f : F) × Contains xs f × Contains (go f) one
+pub from_flat : {F X : Type 0} (go : F → List X) (xs : List F) (one : X) → Contains (flat_map go xs) one → (f : F) × Contains xs f × Contains (go f) one
 from_flat go [] one h = none_among one h
 from_flat go (f ∷ xs) one h =
     ⊎_elim (λ here. (f, Contains-append_left (f ∷ []) xs f (first_is f), here))
     (λ later. let more = from_flat go xs one later in (more.0, Contains-append_right (f ∷ []) xs more.0 more.1, more.2))
     (Contains-append_cases (go f) (flat_map go xs) one h)
 
-into_flat : {F X : Type 0} (go : F → List X) (xs : List F) (f : F) (one : X) → Contains xs f → Contains (go f) one → Contains (flat_map go xs) one
+pub into_flat : {F X : Type 0} (go : F → List X) (xs : List F) (f : F) (one : X) → Contains xs f → Contains (go f) one → Contains (flat_map go xs) one
 into_flat go [] f one among there = none_among f among
 into_flat go (x ∷ xs) f one among there =
     ⊎_elim (λ is. Contains-append_left (go x) (flat_map go xs) one (subst (λ y. Contains (go y) one) (only_is x f is) there))
@@ -59,18 +59,18 @@ into_map go xs f among = subst (λ ys. Contains ys (go f)) (flat_map_single go x
 
 -- ---- truths
 
-first_holds : (a b : Bool) → (a && b) ≡ true → a ≡ true
+pub first_holds : (a b : Bool) → (a && b) ≡ true → a ≡ true
 first_holds true b e = refl
 first_holds false b e = absurd (true≢false (sym e))
 
-second_holds : (a b : Bool) → (a && b) ≡ true → b ≡ true
+pub second_holds : (a b : Bool) → (a && b) ≡ true → b ≡ true
 second_holds true b e = e
 second_holds false b e = absurd (true≢false (sym e))
 
 both_hold : (a b : Bool) → a ≡ true → b ≡ true → (a && b) ≡ true
 both_hold a b e f = ap (λ x. x && b) e ∙ f
 
-same_number : (m n : ℕ) → nat_eq m n ≡ true → m ≡ n
+pub same_number : (m n : ℕ) → nat_eq m n ≡ true → m ≡ n
 same_number m n e = eqb-true m n e
 
 number_same : (m n : ℕ) → m ≡ n → nat_eq m n ≡ true
@@ -100,7 +100,7 @@ part_same (shape.Record m) = number_same m m refl
 part_same shape.Single = refl
 part_same (shape.Literal s) = (bytes_eq-Decides s s).1 refl
 
-shape_is : (ones others : List PartShape) → same_shape ones others ≡ true → ones ≡ others
+pub shape_is : (ones others : List PartShape) → same_shape ones others ≡ true → ones ≡ others
 shape_is [] [] e = refl
 shape_is [] (other ∷ others) e = absurd (true≢false (sym e))
 shape_is (one ∷ ones) [] e = absurd (true≢false (sym e))
@@ -212,9 +212,9 @@ module _ (set : ReadSet) (schema : ModelList) (routes : List Route) (reached : L
   fault_there fault (IsLintFault.of_pair earlier later first second one behind same) =
       Contains-append_right (flat_map (block_faults set schema) blocks) (all_shared set notes) (shared_fault set earlier later) (pair_there earlier later first second one behind same)
 
-  pub are_faults : (faults once : List LintFault) → faults ≡ listed → AreInOrder faults once → AreLintFaults set schema routes once
-  are_faults faults once is o = record {
+  pub are_faults : (faults once : List LintFault) → AreThose faults listed → AreInOrder faults once → AreLintFaults set schema routes once
+  are_faults faults once are o = record {
     ascend = o.ascend;
-    each = λ fault h. fault_is fault (subst (λ fs. Contains fs fault) is (o.only fault h));
-    all = λ fault h. o.kept fault (subst (λ fs. Contains fs fault) (sym is) (fault_there fault h));
+    each = λ fault h. fault_is fault (are.only fault (o.only fault h));
+    all = λ fault h. o.kept fault (are.kept fault (fault_there fault h));
   }

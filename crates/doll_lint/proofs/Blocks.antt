@@ -197,7 +197,7 @@ module _ (schema : ModelList) (templates : List Template) (number : ℕ) where
 
 module _ (set : ReadSet) (schema : ModelList) where
   pub none_grows : (found : Found) → Grows set schema [] found found
-  none_grows found = record { faults = sym (append-nil found.faults.items); notes = sym (append-nil found.notes) }
+  none_grows found = record { faults = sym (append-nil found.faults.items); notes = sym (append-nil found.notes.items) }
 
   pub then_grows : (xs ys : List Block) (before middle after : Found) → Grows set schema xs before middle → Grows set schema ys middle after → Grows set schema (xs ++ ys) before after
   then_grows xs ys before middle after first more = record {
@@ -207,8 +207,8 @@ module _ (set : ReadSet) (schema : ModelList) where
         ∙ ap (λ f. before.faults.items ++ f) (sym (flat_map-append (block_faults set schema) xs ys));
     notes =
         more.notes ∙ ap (λ n. n ++ map (note_of schema) ys) first.notes
-        ∙ append_assoc before.notes (map (note_of schema) xs) (map (note_of schema) ys)
-        ∙ ap (λ n. before.notes ++ n) (sym (map-append (note_of schema) xs ys));
+        ∙ append_assoc before.notes.items (map (note_of schema) xs) (map (note_of schema) ys)
+        ∙ ap (λ n. before.notes.items ++ n) (sym (map-append (note_of schema) xs ys));
   }
 
   pub grows_as : (xs ys : List Block) (before after : Found) → xs ≡ ys → Grows set schema xs before after → Grows set schema ys before after

@@ -4,4 +4,5 @@ pub mod Templates
 pub mod Blocks
 pub mod Sorting
 pub mod Answering
+pub mod Grouping
 pub mod Passing

@@ -34,7 +34,7 @@ note_of schema block = record { template = block.template; number = block.number
 -- what is found after these blocks too
 pub record Grows (set : ReadSet) (schema : ModelList) (blocks : List Block) (before after : Found) : Type 0 where
   pub faults : after.faults.items ≡ before.faults.items ++ flat_map (block_faults set schema) blocks
-  pub notes : after.notes ≡ before.notes ++ map (note_of schema) blocks
+  pub notes : after.notes.items ≡ before.notes.items ++ map (note_of schema) blocks
 
 -- the blocks of what pages reach
 abbrev pub reached_blocks : ReadSet → ModelList → Reached → List Block
@@ -46,4 +46,4 @@ all_blocks set schema reached = flat_map (reached_blocks set schema) reached
 -- what is found at the blocks of all that pages reach
 pub record AreFound (set : ReadSet) (schema : ModelList) (reached : List Reached) (found : Found) : Type 0 where
   pub faults : found.faults.items ≡ flat_map (block_faults set schema) (all_blocks set schema reached)
-  pub notes : found.notes ≡ map (note_of schema) (all_blocks set schema reached)
+  pub notes : found.notes.items ≡ map (note_of schema) (all_blocks set schema reached)

@@ -6,5 +6,6 @@ pub mod Faults
 pub mod Found
 pub mod Order
 pub mod Ties
+pub mod Noted
 pub mod Shared
 pub mod Checked

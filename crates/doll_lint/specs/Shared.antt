@@ -1,6 +1,6 @@
 -- Blocks of one template that may share a key, told by what is noted of them (this project's own).
-use Rattle.std.specs.Prelude.{Bool, true, false, ◌&&◌, nat_eq, nat_lt, bytes_eq, List, [], ◌∷◌, if◌then◌else◌}
-use Rattle.std.specs.List.{flat_map}
+use Rattle.std.specs.Prelude.{Bool, true, false, ◌&&◌, nat_eq, nat_lt, bytes_eq, List, [], ◌∷◌, ◌++◌, if◌then◌else◌}
+use Rattle.std.specs.List.{Contains, flat_map}
 use Rattle.doll_set.specs.Digests.{name_at}
 use Rattle.doll_set.specs.Sets.{ReadSet}
 use Rattle.doll_lint.specs.declared.block.PartShape.{PartShape}
@@ -8,6 +8,7 @@ use Rattle.doll_lint.specs.declared.block.PartShape.TheVariants as shape
 use Rattle.doll_lint.specs.declared.fault.LintFault.{LintFault}
 use Rattle.doll_lint.specs.declared.fault.LintKind.TheVariants.{SharedKey}
 use Rattle.doll_lint.specs.declared.found.Note.{Note}
+use Rattle.doll_lint.specs.Noted.{are_alike}
 
 abbrev pub same_part : PartShape → PartShape → Bool
 same_part (shape.Record m) (shape.Record n) = nat_eq m n
@@ -37,3 +38,19 @@ shared_with set notes later = flat_map (shared_by set later) notes
 
 abbrev pub all_shared : ReadSet → List Note → List LintFault
 all_shared set notes = flat_map (shared_with set notes) notes
+
+-- these faults and no others, in whichever order and however often
+pub record AreThose (faults others : List LintFault) : Type 0 where
+  pub kept : (fault : LintFault) → Contains others fault → Contains faults fault
+  pub only : (fault : LintFault) → Contains faults fault → Contains others fault
+
+-- ---- notes in their order
+
+-- the faults that a noted block gives those behind it, which are up to the first of another template or shape
+abbrev pub shared_behind : ReadSet → Note → List Note → List LintFault
+shared_behind set earlier [] = []
+shared_behind set earlier (later ∷ more) = if are_alike earlier later then shared_by set later earlier ++ shared_behind set earlier more else []
+
+abbrev pub shared_in_order : ReadSet → List Note → List LintFault
+shared_in_order set [] = []
+shared_in_order set (earlier ∷ more) = shared_behind set earlier more ++ shared_in_order set more

@@ -32,7 +32,7 @@ pub struct Note {
 #[derive(Drop)]
 pub struct Found {
     pub faults: Vec<LintFault>,
-    pub notes: Items<Note>,
+    pub notes: Vec<Note>,
 }
 
 /// A cached block where it stands: its template, its number there, the place of its tag, the types of the variables of its scope,

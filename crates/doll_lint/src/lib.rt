@@ -7,6 +7,7 @@ pub mod fault;
 pub mod found;
 pub mod lint;
 pub mod needs;
+pub mod noted;
 pub mod order;
 pub mod path;
 pub mod reading;

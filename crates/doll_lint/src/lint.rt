@@ -13,7 +13,7 @@ use crate::shared::add_shared;
 use crate::walk::{Ground, add_blocks, tree_at};
 use doll_schema::Schema;
 use doll_set::TemplateSet;
-use doll_text::{Items, Memory};
+use doll_text::Memory;
 use doll_types::Reached;
 use std::alloc::Global;
 
@@ -28,7 +28,7 @@ pub fn find_blocks(
 {
     let mut found = Found {
         faults: Vec::new(alloc),
-        notes: Items::new(alloc),
+        notes: Vec::new(alloc),
     };
     add_all(alloc, set, schema, reached, &mut found)?;
     Ok(found)
@@ -85,6 +85,6 @@ pub fn faults_of(
 {
     let Found { faults, notes } = find_blocks(alloc, set, schema, reached)?;
     let mut faults = faults;
-    add_shared(alloc, set, notes.as_slice(), &mut faults)?;
+    add_shared(alloc, set, notes, &mut faults)?;
     Ok(in_order(faults)?)
 }

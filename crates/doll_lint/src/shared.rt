@@ -6,40 +6,61 @@ ghost use Rattle.doll_lint.specs.Shared as spec;
 use crate::block::PartShape;
 use crate::fault::{LintFault, LintKind};
 use crate::found::{Note, name_of};
+use crate::noted::{are_alike, each_once};
 use doll_set::TemplateSet;
 use doll_text::{Memory, Name};
 use std::alloc::Global;
 
-/// Appends the faults of noted blocks that may share a key with an earlier block of their template.
+/// Appends the faults of noted blocks that may share a key with an earlier block of their template. The notes are put in order
+/// first, each once, so that only those of one template and one shape are compared.
+#[tactic(auto, using(crate::proofs::Grouping::told_ok))]
 pub(crate) fn add_shared(
     alloc: Global,
     set: &TemplateSet,
-    notes: &[Note],
+    notes: Vec<Note>,
+    faults: &mut Vec<LintFault>,
+) -> Result<(), Memory>
+    ensures { OnOk result (spec.AreThose faults.new.items
+        (faults.old.items ++ spec.all_shared set.now notes.items)) }
+{
+    let notes = each_once(notes)?;
+    add_in_order(alloc, set, notes.as_slice(), faults)
+}
+
+/// Appends those of notes that are in order.
+fn add_in_order(
+    alloc: Global,
+    set: &TemplateSet,
+    mut notes: &[Note],
     faults: &mut Vec<LintFault>,
 ) -> Result<(), Memory>
     ensures { OnOk result (faults.new.items
-        ≡ faults.old.items ++ spec.all_shared set.now notes.now) }
+        ≡ faults.old.items ++ spec.shared_in_order set.now notes.entry.now) }
 {
-    for later in notes {
-        add_shared_with(alloc, set, notes, later, faults)?;
+    while let [earlier, more @ ..] = notes {
+        add_behind(alloc, set, earlier, more, faults)?;
+        notes = more;
     }
     Ok(())
 }
 
-/// Appends those of one of them.
-#[tactic(auto, unfolding(crate::specs::Shared::shared_with))]
-fn add_shared_with(
+/// Appends those that a noted block gives the ones behind it.
+fn add_behind(
     alloc: Global,
     set: &TemplateSet,
-    notes: &[Note],
-    later: &Note,
+    earlier: &Note,
+    mut notes: &[Note],
     faults: &mut Vec<LintFault>,
 ) -> Result<(), Memory>
     ensures { OnOk result (faults.new.items
-        ≡ faults.old.items ++ spec.shared_with set.now notes.now later.now) }
+        ≡ faults.old.items ++ spec.shared_behind set.now earlier.now notes.entry.now) }
 {
-    for earlier in notes {
+    while let [later, more @ ..] = notes {
+        if !are_alike(earlier, later) {
+            return Ok(());
+        }
         add_shared_by(alloc, set, later, earlier, faults)?;
+        notes = more;
     }
     Ok(())
 }
