@@ -1,5 +1,6 @@
 pub mod Apart
 pub mod Digits
+pub mod Distinct
 pub mod Kept
 pub mod Parsing
 pub mod Patterns

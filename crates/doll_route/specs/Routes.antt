@@ -1,5 +1,6 @@
 -- The routes of a site, and which of them a path asks for (this project's own).
-use Rattle.std.specs.Prelude.{◌≡◌, ◌≢◌, ℕ, ◌<◌, ◌≤◌, Bool, true, false, not, ◌&&◌, List, [], ◌∷◌, length, bytes_eq, slice_get, position, Option, Some, None, is_some, option_and_then, option_map, IfSome, All}
+use Rattle.std.specs.Prelude.{◌≡◌, ◌≢◌, ℕ, ◌<◌, ◌≤◌, Bool, true, false, not, ◌&&◌, List, [], ◌∷◌, length, bytes_eq, map, slice_get, position, Vec, Option, Some, None, is_some, option_and_then, option_map, IfSome, All}
+use Rattle.std.specs.declared.alloc.Global.{Global}
 use Rattle.std.specs.List.{list_any}
 use Rattle.doll_text.specs.Segments.{is_virtual_path}
 use Rattle.doll_schema.specs.Models.{ModelList}
@@ -38,6 +39,10 @@ is_own_among (Some own) params = list_any (bytes_eq own) params
 abbrev pub are_distinct : List (List ℕ) → Bool
 are_distinct [] = true
 are_distinct (name ∷ names) = not (list_any (bytes_eq name) names) && are_distinct names
+
+-- the texts that a set holds, by its keys
+abbrev pub texts_in : List (Vec ℕ Global) → List (List ℕ)
+texts_in keys = map (λ key. key.items) keys
 
 -- one of these routes has this path
 abbrev pub has_path : List Route → List ℕ → Bool

@@ -1,13 +1,13 @@
 //! Reading a route from JSON.
 
-ghost use Rattle.std.specs.Prelude.{◌≡◌, ◌<◌, ◌≤◌, true, false, length, option_map, IfOk, IfSome, OnOk, bytes_eq};
+ghost use Rattle.std.specs.Prelude.{◌≡◌, ◌<◌, ◌≤◌, ◌∷◌, ◌++◌, [], true, false, not, length, option_map, IfOk, IfSome, OnOk, bytes_eq};
 ghost use Rattle.std.specs.List.{list_any};
 ghost use Rattle.std.specs.Option.{ok_or};
 ghost use Rattle.serde_json.specs.View.{view};
 ghost use Rattle.doll_text.specs.Gives.{Gives};
 ghost use Rattle.doll_text.specs.Segments.{is_virtual_path};
 ghost use Rattle.doll_route.specs.Readings.{has_id_of, route_from, route_in, subject_of};
-ghost use Rattle.doll_route.specs.Routes.{FitsSchema, IsRoute, are_distinct, has_path, is_own_among, subject_model, variable_of};
+ghost use Rattle.doll_route.specs.Routes.{FitsSchema, IsRoute, are_distinct, has_path, is_own_among, subject_model, texts_in, variable_of};
 
 use crate::draft::{Named, RouteDraft, draft_of};
 use crate::fault::RouteFault;
@@ -15,7 +15,8 @@ use crate::limits::{MOST_PARAMS, MOST_ROUTES};
 use crate::path::{is_path, is_reserved_path, names_id};
 use crate::route::{Route, Subject};
 use doll_schema::Schema;
-use doll_text::Name;
+use doll_text::{Memory, Name};
+use indexmap::IndexSet;
 use serde_json::Value;
 use std::alloc::Global;
 
@@ -35,14 +36,19 @@ pub fn route_in(
     ensures room { OnOk result (length earlier.now < MOST_ROUTES) }
 {
     let draft = draft_of(alloc, earlier.len() as u32, json)?;
-    route_from(schema, earlier, draft)
+    route_from(alloc, schema, earlier, draft)
 }
 
 /// A draft as a route, its model looked up.
-fn route_from(schema: &Schema, earlier: &[Route], draft: RouteDraft) -> Result<Route, RouteFault>
+fn route_from(
+    alloc: Global,
+    schema: &Schema,
+    earlier: &[Route],
+    draft: RouteDraft,
+) -> Result<Route, RouteFault>
     requires room { length earlier.now ≤ MOST_ROUTES }
     requires template { is_virtual_path draft.template ≡ true }
-    ensures exact { result ≡ route_from schema.now earlier.now draft }
+    ensures exact { Gives RouteFault.Memory (route_from schema.now earlier.now draft) result }
     ensures route { IfOk result IsRoute }
     ensures fits { IfOk result (FitsSchema schema.now) }
     ensures fresh { IfOk result (λ route. has_path earlier.now route.path ≡ false) }
@@ -68,7 +74,7 @@ fn route_from(schema: &Schema, earlier: &[Route], draft: RouteDraft) -> Result<R
     if has_variable(schema, subject, draft.params.as_slice()) {
         return Err(RouteFault::Duplicate { at });
     }
-    if !are_distinct(draft.params.as_slice()) {
+    if !are_distinct(alloc, draft.params.as_slice())? {
         return Err(RouteFault::Duplicate { at });
     }
     if draft.params.len() > MOST_PARAMS {
@@ -143,17 +149,30 @@ pub fn variable_of(schema: &Schema, subject: Subject) -> Option<&[u8]>
     }
 }
 
-/// Whether no name stands twice.
-fn are_distinct(mut names: &[Name]) -> bool
-    ensures { result ≡ are_distinct names.entry.now }
+/// Whether no name stands twice. There may be many before it is told that they are too many, so they are looked up by their hash.
+#[tactic(auto, using(crate::proofs::Distinct::all_apart))]
+fn are_distinct(alloc: Global, mut names: &[Name]) -> Result<bool, Memory>
+    ensures { IfOk result (λ distinct. distinct ≡ are_distinct names.entry.now) }
 {
+    let mut seen = IndexSet::new(alloc);
     while let [name, rest @ ..] = names {
-        if is_among(rest, name.as_bytes()) {
-            return false;
+        if !add_new(alloc, &mut seen, name.as_bytes())? {
+            return Ok(false);
         }
         names = rest;
     }
-    true
+    Ok(true)
+}
+
+/// Puts a name among others, and tells whether it wasn't there.
+fn add_new(alloc: Global, seen: &mut IndexSet<Vec<u8>>, name: &[u8]) -> Result<bool, Memory>
+    ensures told { IfOk result (λ new. new
+        ≡ not (list_any (bytes_eq name.now) (texts_in seen.old.keys))) }
+    ensures added { IfOk result (λ new. new ≡ true
+        → texts_in seen.new.keys ≡ texts_in seen.old.keys ++ name.now ∷ []) }
+{
+    let name = Vec::from_slice(alloc, name)?;
+    Ok(seen.insert(name)?)
 }
 
 fn is_among(names: &[Name], name: &[u8]) -> bool
