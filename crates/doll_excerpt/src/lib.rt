@@ -14,6 +14,6 @@ pub mod tags;
 pub use blocks::{Block, add_blocks};
 pub use excerpt::{Stretch, put_line_at, put_stretch};
 pub use paper::{LONGEST_PAPER, Paper};
-pub use place::{Place, line_start, place_of};
+pub use place::{Place, byte_at, line_start, place_of};
 pub use shown::{put_quoted, put_shown};
 pub use tags::{stretch_in, tag_at, token_at};

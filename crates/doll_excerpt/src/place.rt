@@ -112,6 +112,21 @@ fn last_line(bytes: &[u8]) -> &[u8]
     line
 }
 
+/// The number of the byte with a line and a column, where both count from 1 and the column counts bytes, as errors of JSON do;
+/// the text's length where no line has the number.
+pub fn byte_at(text: &[u8], line: usize, column: usize) -> usize {
+    let mut left = line;
+    for (at, byte) in text.iter().enumerate() {
+        if left <= 1 {
+            return at.saturating_add(column.saturating_sub(1));
+        }
+        if is_line_end(*byte) {
+            left -= 1;
+        }
+    }
+    text.len()
+}
+
 /// The number of the first byte of the line in which a byte stands.
 pub fn line_start(text: &[u8], at: usize) -> usize {
     let before = front(text, at);

@@ -8,7 +8,7 @@ ghost use Rattle.doll_excerpt.specs.Texts.{EndsLine};
 use crate::commits::put_commit;
 use crate::lints::put_lints;
 use crate::paths::{put_path, put_usage};
-use crate::report::put_named;
+use crate::report::{put_named, put_place, put_wrong};
 use crate::schema::{put_route, put_said, put_schema};
 use crate::sets::put_set;
 use crate::types::put_types;
@@ -19,7 +19,7 @@ use crate::words::{
 use doll_base::{MemFolder, ViewFile};
 use doll_bundle::Site;
 use doll_digest::{Md5Hash, Registry};
-use doll_excerpt::{LONGEST_PAPER, Paper};
+use doll_excerpt::{LONGEST_PAPER, Paper, byte_at, put_stretch, token_at};
 use doll_lint::checked::{LintRefusal, lint};
 use doll_route::Routes;
 use doll_schema::Schema;
@@ -68,20 +68,15 @@ pub fn explain(alloc: Global, answer: Answer, answered: Answered<'_>) -> Result<
     let mut paper = Paper::new(alloc);
     match answer {
         Answer::WrongWords => put_usage(&mut paper)?,
-        Answer::TooLong => put_named(&mut paper, name_of(answered.missed), too_long_words())?,
+        Answer::TooLong => match answered.missed {
+            Some(name) => put_named(&mut paper, name.as_bytes(), too_long_words())?,
+            None => put_named(&mut paper, b"standard input", too_long_words())?,
+        },
         Answer::Refused | Answer::Untyped | Answer::Unclean | Answer::UnknownPath => {
             put_input(alloc, &mut paper, answer, answered)?
         }
     }
     paper.finish()
-}
-
-/// The name of a file, or of the input where there is none.
-fn name_of(missed: Option<&Name>) -> &[u8] {
-    match missed {
-        Some(name) => name.as_bytes(),
-        None => b"standard input",
-    }
 }
 
 /// Appends the explanation of an answer to an input.
@@ -93,11 +88,29 @@ fn put_input(
 ) -> Result<(), Memory> {
     match json_of(alloc, answered.input)? {
         Some(json) => put_json(alloc, paper, answer, answered, &json),
-        None => {
-            paper.put("standard input")?;
-            put_said(paper, None, json_words())
-        }
+        None => put_bad_json(alloc, paper, answered.input),
     }
+}
+
+/// Where the reading of an input as JSON stops.
+fn end_of_json(alloc: Global, input: &[u8]) -> Option<usize> {
+    match Value::from_slice(alloc, input) {
+        Ok(_) => None,
+        Err(error) => Some(byte_at(input, error.line(), error.column())),
+    }
+}
+
+/// Appends where an input stops being JSON.
+fn put_bad_json(alloc: Global, paper: &mut Paper, input: &[u8]) -> Result<(), Memory> {
+    let words = json_words();
+    let Some(at) = end_of_json(alloc, input) else {
+        return Err(Memory);
+    };
+    paper.put("standard input")?;
+    put_place(paper, input, at)?;
+    put_wrong(paper, &[], words)?;
+    put_stretch(alloc, paper, input, token_at(input, at))?;
+    paper.put(words.instead)
 }
 
 /// Appends the explanation of an answer to a JSON value.

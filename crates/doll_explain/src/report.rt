@@ -65,6 +65,15 @@ pub(crate) fn put_whole(paper: &mut Paper, fault: Fault<'_>) -> Result<(), Memor
     paper.put(fault.words.instead)
 }
 
+/// Appends the line and the column of a byte, each behind a colon.
+pub(crate) fn put_place(paper: &mut Paper, source: &[u8], at: usize) -> Result<(), Memory> {
+    let place = place_of(source, at);
+    paper.put(":")?;
+    paper.put_number(place.line as u64)?;
+    paper.put(":")?;
+    paper.put_number(place.column as u64)
+}
+
 /// Appends an explanation that points at a byte of a template's source: its line and column, the lines of the tags round it, and
 /// the line of the stretch, underlined.
 pub(crate) fn put_pointing(
@@ -75,12 +84,9 @@ pub(crate) fn put_pointing(
     around: &[usize],
     stretch: Stretch,
 ) -> Result<(), Memory> {
-    let place = place_of(source, fault.at);
     put_shown(paper, fault.template)?;
-    paper.put(".html.erb:")?;
-    paper.put_number(place.line as u64)?;
-    paper.put(":")?;
-    paper.put_number(place.column as u64)?;
+    paper.put(".html.erb")?;
+    put_place(paper, source, fault.at)?;
     put_wrong(paper, fault.carried, fault.words)?;
     for at in around {
         put_line_at(paper, source, *at)?;

@@ -390,8 +390,8 @@ pub(crate) fn bundle_words() -> Words {
 /// Why an input is no JSON.
 pub(crate) fn json_words() -> Words {
     say(
-        "isn't JSON",
-        "Look for a comma, a quote or a bracket that is missing, or one too many, there or before.",
+        "this isn't JSON",
+        "Look for a comma, a quote or a bracket that is missing, or one too many, here or before.",
     )
 }
 
