@@ -3,3 +3,5 @@ pub mod Givens
 pub mod Jsons
 pub mod Readings
 pub mod Texts
+pub mod Placed
+pub mod Wanted

@@ -1,7 +1,10 @@
 -- The files of a site's templates, as a bundle names them (this project's own).
-use Rattle.std.specs.Prelude.{ℕ, ◌+◌, Bool, List, [], ◌∷◌, map, Option, Some, None, Result, Ok, Err, if◌then◌else◌}
+use Rattle.std.specs.Prelude.{ℕ, ◌+◌, Bool, List, [], ◌∷◌, fold, map, Option, Some, None, Result, Ok, Err, if◌then◌else◌}
+use Rattle.std.specs.Cmp.Lexicographic.{slice_cmp}
 use Rattle.std.specs.List.{list_any}
 use Rattle.std.specs.Option.{ok_or}
+use Rattle.std.specs.declared.cmp.Ordering.{Ordering}
+use Rattle.std.specs.Ordering.{eq_by_cmp, nat_cmp, on}
 use Rattle.std.specs.Str.{bytes_eq}
 use Rattle.serde_json.specs.Data.{Data, Items, no_items, item, Members, no_members, member}
 use Rattle.serde_json.specs.Find.{as_object, as_str}
@@ -26,6 +29,17 @@ views_refusal number what = Refused part.Views number what
 -- a file among the others by its name, behind those with an equal one
 abbrev pub put_named : List NamedFile → NamedFile → List NamedFile
 put_named files file = put_by_name (λ (f : NamedFile). f.name) files file
+
+-- files in their order, put there one after another
+abbrev pub in_place : List NamedFile → List NamedFile
+in_place files = fold put_named [] files
+
+-- files go by their names
+abbrev pub file_order : NamedFile → NamedFile → Ordering
+file_order = on (λ (f : NamedFile). f.name) (slice_cmp nat_cmp)
+
+abbrev pub have_one_name : NamedFile → NamedFile → Bool
+have_one_name = eq_by_cmp file_order
 
 -- one of the files has this name
 abbrev pub has_name : List NamedFile → List ℕ → Bool

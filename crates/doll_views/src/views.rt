@@ -1,19 +1,28 @@
 //! The files of a site's templates, as a bundle names them.
 
-ghost use Rattle.std.specs.Prelude.{◌≡◌, ◌≤◌, [], option_map, length, map, IfOk, OnOk};
-ghost use Rattle.std.specs.List.{prefix_len};
+ghost use Rattle.std.specs.Prelude.{◌≡◌, [], not, option_map, map, IfOk, OnOk};
+ghost use Rattle.std.proofs.Common.{refl, rules};
+ghost use Rattle.std.specs.Cmp.{partial_order_from_own_ties};
+ghost use Rattle.std.specs.Cmp.Rules.{comparing};
+ghost use Rattle.std.specs.List.{list_any};
+ghost use Rattle.std.specs.Ordering.{as_partial_cmp};
+ghost use Rattle.std.specs.Str.{bytes_eq};
 ghost use Rattle.serde_json.specs.Find.{as_str};
 ghost use Rattle.serde_json.specs.View.{items_view, members_view, view};
 ghost use Rattle.doll_text.specs.Gives.{Gives, GivesBy, GivesExactly};
 ghost use Rattle.doll_schema.specs.Json.{list_if_given};
-ghost use Rattle.doll_set.specs.Order as order_spec;
+ghost use Rattle.doll_digest.specs.Registries.{name_added, names_in};
+ghost use Rattle.doll_views.specs.Files.{wanted_names};
 ghost use Rattle.doll_views.specs.Seen.{seen_listing};
 ghost use Rattle.doll_views.specs.Views as spec;
+ghost use Rattle.doll_views.specs.Views.{file_order, have_one_name};
 
 use crate::refusal::{BundlePart, Kind, Refusal};
 use doll_text::{Memory, Text};
+use indexmap::IndexSet;
 use serde_json::{Map, Value};
 use std::alloc::{AllocError, Global};
+use std::cmp::Ordering;
 use std::marker::Model;
 
 /// The name of a file, a text, which contracts see as the list of its bytes.
@@ -121,9 +130,9 @@ fn list_if_given(files: Option<&Value>) -> Option<&[Value]>
     Some(items.as_slice())
 }
 
-/// The files under `views`.
+/// The files under `views`, not yet in their order.
 fn views_in(alloc: Global, views: Option<&Value>) -> Result<Vec<NamedFile>, Refusal>
-    ensures { GivesBy (λ files. files.items) Refusal.Memory
+    ensures { GivesBy (λ files. spec.in_place files.items) Refusal.Memory
         (spec.views_in (option_map (λ d. view d.now) views.entry)) result }
 {
     let Some(views) = views else {
@@ -137,12 +146,12 @@ fn views_in(alloc: Global, views: Option<&Value>) -> Result<Vec<NamedFile>, Refu
 
 /// The files of an object's members.
 fn all_views(alloc: Global, views: &Map<String, Value>) -> Result<Vec<NamedFile>, Memory>
-    ensures { IfOk result (λ files. files.items ≡ spec.with_views [] (members_view views.now.entries)) }
+    ensures { IfOk result (λ files. spec.in_place files.items
+        ≡ spec.with_views [] (members_view views.now.entries)) }
 {
     let mut files = Vec::new(alloc);
     for (name, source) in views.iter() {
-        let file = view_of(alloc, name.as_str(), source)?;
-        put_named(&mut files, file)?;
+        files.push(view_of(alloc, name.as_str(), source)?)?;
     }
     Ok(files)
 }
@@ -177,70 +186,107 @@ fn in_folder(alloc: Global, name: &str) -> Result<NamedFile, Memory>
     })
 }
 
-/// The files of views and those with these names.
+/// The files of views and those with these names. There may be many before it is told that they are too many, so they are sorted
+/// once, at the end.
 fn with_names(alloc: Global, views: Vec<NamedFile>, names: &[Value]) -> Result<Listing, Refusal>
     ensures { GivesBy seen_listing Refusal.Memory
-        (spec.with_names (spec.unwanted views.items) (items_view names.now)) result }
+        (spec.with_names (spec.unwanted (spec.in_place views.items)) (items_view names.now)) result }
 {
     let mut files = views;
     let mut wanted = Vec::new(alloc);
+    let mut seen = IndexSet::new(alloc);
     for name in names {
         let Some(name) = name.as_str() else {
             return Err(views_refusal(0, Kind::BadForm));
         };
-        put_named(&mut files, in_folder(alloc, name)?)?;
-        put_once(&mut wanted, in_folder(alloc, name)?)?;
+        files.push(in_folder(alloc, name)?)?;
+        put_wanted(alloc, &mut seen, &mut wanted, name)?;
     }
+    let files = in_order(files)?;
+    let wanted = in_order(wanted)?;
     Ok(Listing { files, wanted })
 }
 
-/// A file among the others by its name, behind those with an equal one.
-fn put_named(files: &mut Vec<NamedFile>, file: NamedFile) -> Result<(), AllocError>
-    ensures { OnOk result (files.new.items ≡ spec.put_named files.old.items file) }
+/// Puts the file with a name among those that are wanted, unless it is there.
+#[tactic(auto, using(crate::proofs::Wanted::one_more_wanted, crate::proofs::Wanted::wanted_before, crate::proofs::Wanted::one_more_seen, crate::proofs::Wanted::seen_before))]
+fn put_wanted(
+    alloc: Global,
+    seen: &mut IndexSet<Vec<u8>>,
+    wanted: &mut Vec<NamedFile>,
+    name: &str,
+) -> Result<(), Memory>
+    requires seen { names_in seen.old.keys ≡ wanted_names wanted.old.items }
+    ensures wanted { OnOk result (spec.in_place wanted.new.items
+        ≡ spec.put_once (spec.in_place wanted.old.items) (spec.in_folder name.now)) }
+    ensures seen { OnOk result (names_in seen.new.keys ≡ wanted_names wanted.new.items) }
 {
-    let at = place_of(files.as_slice(), file.name.as_str());
-    files.insert(at, file)?;
+    if !add_new(alloc, seen, name.as_bytes())? {
+        return Ok(());
+    }
+    wanted.push(in_folder(alloc, name)?)?;
     Ok(())
 }
 
-/// The same, but that a name stands once.
-fn put_once(files: &mut Vec<NamedFile>, file: NamedFile) -> Result<(), AllocError>
-    ensures { OnOk result (files.new.items ≡ spec.put_once files.old.items file) }
+/// Puts a name among others, and tells whether it wasn't there.
+fn add_new(alloc: Global, seen: &mut IndexSet<Vec<u8>>, name: &[u8]) -> Result<bool, Memory>
+    ensures told { IfOk result (λ new. new
+        ≡ not (list_any (bytes_eq name.now) (names_in seen.old.keys))) }
+    ensures added { OnOk result (names_in seen.new.keys
+        ≡ name_added (names_in seen.old.keys) name.now) }
 {
-    if has_name(files.as_slice(), file.name.as_str()) {
-        return Ok(());
+    let name = Vec::from_slice(alloc, name)?;
+    Ok(seen.insert(name)?)
+}
+
+/// Files go by their names.
+impl Ord for NamedFile {
+    ghost cmp = { file_order };
+
+    ghost total = { Prim.search (comparing, rules) depth 14 };
+
+    ghost matches_partial_cmp = { Prim.search (comparing, rules) depth 14 };
+
+    ghost matches_eq = { λ x y. refl };
+
+    fn cmp(&self, other: &NamedFile) -> Ordering {
+        self.name
+            .as_str()
+            .as_bytes()
+            .cmp(other.name.as_str().as_bytes())
     }
-    put_named(files, file)
 }
 
-/// Whether one of the files has this name.
-fn has_name(files: &[NamedFile], name: &str) -> bool
-    ensures { result ≡ spec.has_name files.now name.now }
-{
-    files.iter().any(|file| name == file.name.as_str())
-}
+impl PartialOrd for NamedFile {
+    ghost partial_cmp = { as_partial_cmp file_order };
 
-/// The place behind those whose names aren't above this one, from the front on.
-#[tactic(auto, using(doll_set::proofs::Placing::place_past, doll_set::proofs::Placing::place_here))]
-fn place_of(files: &[NamedFile], name: &str) -> usize
-    ensures place { result ≡ prefix_len (λ f. order_spec.isnt_above f.name name.now) files.now }
-    ensures within { result ≤ length files.now }
-{
-    let mut at = 0;
-    for file in files {
-        if !isnt_above(file.name.as_str().as_bytes(), name.as_bytes()) {
-            return at;
-        }
-        at += 1;
+    ghost laws = { partial_order_from_own_ties (Prim.search (comparing, rules) depth 14) (λ x y. refl) };
+
+    fn partial_cmp(&self, other: &NamedFile) -> Option<Ordering> {
+        Some(self.cmp(other))
     }
-    at
 }
 
-/// Whether a name isn't above another, by their bytes.
-pub fn isnt_above(name: &[u8], other: &[u8]) -> bool
-    ensures { result ≡ order_spec.isnt_above name.now other.now }
+impl PartialEq for NamedFile {
+    ghost eq = { have_one_name };
+
+    ghost laws = { Prim.search (comparing, rules) depth 14 };
+
+    fn eq(&self, other: &NamedFile) -> bool {
+        self.cmp(other).is_eq()
+    }
+}
+
+impl Eq for NamedFile {
+    ghost laws = { Prim.search (comparing, rules) depth 14 };
+}
+
+/// Files in the order of their names, those of one name in the order in which they came.
+fn in_order(files: Vec<NamedFile>) -> Result<Vec<NamedFile>, AllocError>
+    ensures { IfOk result (λ sorted. sorted.items ≡ spec.in_place files.items) }
 {
-    name.cmp(other).is_le()
+    let mut files = files;
+    files.sort()?;
+    Ok(files)
 }
 
 /// Each source is a text or in the folder, else the first that isn't is told.
