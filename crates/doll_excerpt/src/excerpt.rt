@@ -1,5 +1,9 @@
 //! Lines of a source, with a stretch of it underlined.
 
+ghost use Rattle.std.specs.Prelude.{◌≡◌, OnOk};
+ghost use Rattle.doll_excerpt.specs.Places.{place_of};
+ghost use Rattle.doll_excerpt.specs.Texts.{with_place};
+
 use crate::paper::Paper;
 use crate::place::{behind, characters, front, line_around, line_start, place_of};
 use crate::shown::{put_visible, width_of};
@@ -28,6 +32,17 @@ struct Window {
     skipped: usize,
     from: usize,
     to: usize,
+}
+
+/// Appends the line and the column of a byte, each behind a colon.
+pub fn put_place(paper: &mut Paper, source: &[u8], at: usize) -> Result<(), Memory>
+    ensures { OnOk result (paper.new ≡ with_place paper.old (place_of source.now at)) }
+{
+    let place = place_of(source, at);
+    paper.put(":")?;
+    paper.put_number(place.line as u64)?;
+    paper.put(":")?;
+    paper.put_number(place.column as u64)
 }
 
 /// Appends the line of a byte behind its number.

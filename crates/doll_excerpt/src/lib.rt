@@ -12,7 +12,7 @@ pub mod shown;
 pub mod tags;
 
 pub use blocks::{Block, add_blocks};
-pub use excerpt::{Stretch, put_line_at, put_stretch};
+pub use excerpt::{Stretch, put_line_at, put_place, put_stretch};
 pub use paper::{LONGEST_PAPER, Paper};
 pub use place::{Place, byte_at, line_start, place_of};
 pub use shown::{put_quoted, put_shown};

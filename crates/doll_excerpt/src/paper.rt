@@ -1,8 +1,9 @@
 //! A text of bounded length that is written from its beginning to its end.
 
-ghost use Rattle.std.specs.Prelude.{◌≡◌, ◌≤◌, [], length, string_bytes, IfOk};
+ghost use Rattle.std.specs.Prelude.{◌≡◌, ◌≤◌, ◌++◌, ◌∷◌, [], length, string_bytes, IfOk, OnErr, OnOk};
+ghost use Rattle.std.specs.Fmt.{decimal};
 ghost use Rattle.std.specs.Str.{IsUtf8};
-ghost use Rattle.doll_excerpt.specs.Texts.{EndsLine};
+ghost use Rattle.doll_excerpt.specs.Texts.{EndsLine, with_text};
 
 use doll_text::Memory;
 use itoa::Buffer;
@@ -43,7 +44,10 @@ impl Paper {
     }
 
     /// Appends a text.
-    pub fn put(&mut self, text: &str) -> Result<(), Memory> {
+    pub fn put(&mut self, text: &str) -> Result<(), Memory>
+        ensures value { OnOk result (self.new ≡ with_text self.old text.now) }
+        ensures kept { OnErr result (self.new ≡ self.old) }
+    {
         if text.len() < LONGEST_PAPER - self.text.len() {
             self.text.push_str(text)?;
         }
@@ -59,18 +63,23 @@ impl Paper {
     }
 
     /// Appends a number in decimal.
-    pub fn put_number(&mut self, number: u64) -> Result<(), Memory> {
+    pub fn put_number(&mut self, number: u64) -> Result<(), Memory>
+        ensures value { OnOk result (self.new ≡ with_text self.old (decimal number)) }
+    {
         let mut digits = Buffer::new();
         self.put(digits.format(number))
     }
 
     /// Appends what another one has.
-    pub fn put_paper(&mut self, other: &Paper) -> Result<(), Memory> {
+    pub fn put_paper(&mut self, other: &Paper) -> Result<(), Memory>
+        ensures value { OnOk result (self.new ≡ with_text self.old other.now) }
+    {
         self.put(other.text.as_str())
     }
 
     /// The text with a line end.
     pub fn finish(self) -> Result<String, Memory>
+        ensures value { IfOk result (λ text. string_bytes text ≡ self ++ 10 ∷ []) }
         ensures bounded { IfOk result (λ text.
             length (string_bytes text) ≤ LONGEST_PAPER) }
         ensures utf8 { IfOk result (λ text. IsUtf8 (string_bytes text)) }

@@ -8,7 +8,7 @@ ghost use Rattle.doll_excerpt.specs.Texts.{EndsLine};
 use crate::commits::put_commit;
 use crate::lints::put_lints;
 use crate::paths::{put_path, put_usage};
-use crate::report::{put_named, put_place, put_wrong};
+use crate::report::{put_named, put_wrong};
 use crate::schema::{put_route, put_said, put_schema};
 use crate::sets::put_set;
 use crate::types::put_types;
@@ -19,7 +19,7 @@ use crate::words::{
 use doll_base::{MemFolder, ViewFile};
 use doll_bundle::Site;
 use doll_digest::{Md5Hash, Registry};
-use doll_excerpt::{LONGEST_PAPER, Paper, byte_at, put_stretch, token_at};
+use doll_excerpt::{LONGEST_PAPER, Paper, byte_at, put_place, put_stretch, token_at};
 use doll_lint::checked::{LintRefusal, lint};
 use doll_route::Routes;
 use doll_schema::Schema;

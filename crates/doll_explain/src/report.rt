@@ -2,7 +2,7 @@
 
 use crate::words::Words;
 use doll_base::ViewFile;
-use doll_excerpt::{Paper, Stretch, place_of, put_line_at, put_quoted, put_shown, put_stretch};
+use doll_excerpt::{Paper, Stretch, put_line_at, put_place, put_quoted, put_shown, put_stretch};
 use doll_text::Memory;
 use std::alloc::Global;
 
@@ -63,15 +63,6 @@ pub(crate) fn put_whole(paper: &mut Paper, fault: Fault<'_>) -> Result<(), Memor
     paper.put(".html.erb")?;
     put_wrong(paper, fault.carried, fault.words)?;
     paper.put(fault.words.instead)
-}
-
-/// Appends the line and the column of a byte, each behind a colon.
-pub(crate) fn put_place(paper: &mut Paper, source: &[u8], at: usize) -> Result<(), Memory> {
-    let place = place_of(source, at);
-    paper.put(":")?;
-    paper.put_number(place.line as u64)?;
-    paper.put(":")?;
-    paper.put_number(place.column as u64)
 }
 
 /// Appends an explanation that points at a byte of a template's source: its line and column, the lines of the tags round it, and
