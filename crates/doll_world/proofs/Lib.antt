@@ -1,3 +1,4 @@
 mod Entries
 mod Hits
 mod Worlds
+pub mod Renderers
