@@ -17,32 +17,42 @@ use Rattle.doll_entry.specs.declared.asks.Fetched.TheVariants.{Hit}
 use Rattle.doll_entry.specs.declared.entry.Fresh.{Fresh}
 use Rattle.doll_sound.specs.Keys.{HasKey}
 use Rattle.doll_run.specs.Comes.{IsHandedIn, IsShown}
-use Rattle.doll_run.specs.Direct.{block_keyed}
+use Rattle.doll_run.specs.Direct.{block_keyed, shows}
 use Rattle.doll_run.specs.Pages.{Ground, ground_of}
-use Rattle.doll_run.specs.Rendering.{Keyed}
+use Rattle.doll_run.specs.Rendering.{Keyed, asked, fresh}
 use Rattle.doll_world.specs.Worlds.{HitIsShown, IsSoundFor}
 
--- With these variables, the renderer's keys are those of the blocks that pages reach with them.
-abbrev pub MakesKeys : ReadSet → List Route → Ground → Variables → Type 0
-MakesKeys set routes ground vars =
-    (block : Block) → IsBlock set ground.schema routes block → HaveTypes ground.table block.typing vars
-    → HasKey set ground.schema block ground.table vars (block_keyed ground block vars).text (block_keyed ground block vars).versions
+-- Each block that pages reach and that asks so has this key and these versions.
+abbrev pub AsksByKey : ReadSet → List Route → Ground → Ask → Type 0
+AsksByKey set routes ground ask =
+    (block : Block) → IsBlock set ground.schema routes block → HaveTypes ground.table block.typing ask.vars
+    → ask ≡ asked ground.tree block.template block.number (block_keyed ground block ask.vars) ask.vars
+    → HasKey set ground.schema block ground.table ask.vars ask.key ask.versions
 
--- What a world hits may be found by a renderer of whichever place of the history.
+-- Each block that is handed in so has this key and these versions.
+abbrev pub HandsInByKey : ReadSet → List Route → Ground → Fresh → Type 0
+HandsInByKey set routes ground handed =
+    (block : Block) → IsBlock set ground.schema routes block → HaveTypes ground.table block.typing handed.vars
+    → handed ≡ fresh ground.tree ground.moment block.template block.number (block_keyed ground block handed.vars) handed.vars
+    (shows ground block handed.vars)
+    → HasKey set ground.schema block ground.table handed.vars handed.key handed.versions
+
+-- What a world hits may be found by a renderer at whichever place of the history.
 abbrev pub HitsAreFound : Type 0
 HitsAreFound =
-    (checked : TypedSet) (history : List Commit) (place : ℕ) (table : TableMap) (moment tree : ℕ) (keyed : ℕ → Typing → List KeyPart → Variables → Keyed)
-    (ask : Ask) (bytes : List ℕ)
+    (checked : TypedSet) (history : List Commit) (place : ℕ) (table : TableMap) (moment tree : ℕ)
+    (keyed : ℕ → Typing → List KeyPart → Variables → Keyed) (ask : Ask) (bytes : List ℕ)
     → place ≤ length history → table_at checked.schema history place ≡ Some table
-    → MakesKeys checked.set checked.routes (ground_of checked.set checked.schema table moment tree keyed) ask.vars
+    → AsksByKey checked.set checked.routes (ground_of checked.set checked.schema table moment tree keyed) ask
     → HitIsShown checked history ask (Hit bytes)
     → IsShown checked.set checked.routes (ground_of checked.set checked.schema table moment tree keyed) ask bytes
 
--- What a renderer of whichever place of the history hands in is sound for it, by the set with the number 0 and the moment of the place.
+-- What a renderer at whichever place of the history hands in is sound for it, by the set with the number 0 and the moment of the place.
 abbrev pub HandedInIsSound : Type 0
 HandedInIsSound =
-    (checked : TypedSet) (history : List Commit) (place : ℕ) (table : TableMap) (keyed : ℕ → Typing → List KeyPart → Variables → Keyed) (fresh : Fresh)
+    (checked : TypedSet) (history : List Commit) (place : ℕ) (table : TableMap)
+    (keyed : ℕ → Typing → List KeyPart → Variables → Keyed) (handed : Fresh)
     → IsHistory checked.schema history → place ≤ length history → table_at checked.schema history place ≡ Some table
-    → MakesKeys checked.set checked.routes (ground_of checked.set checked.schema table (moment_at history place) 0 keyed) fresh.vars
-    → IsHandedIn checked.set checked.routes (ground_of checked.set checked.schema table (moment_at history place) 0 keyed) fresh
-    → IsSoundFor checked history fresh
+    → HandsInByKey checked.set checked.routes (ground_of checked.set checked.schema table (moment_at history place) 0 keyed) handed
+    → IsHandedIn checked.set checked.routes (ground_of checked.set checked.schema table (moment_at history place) 0 keyed) handed
+    → IsSoundFor checked history handed

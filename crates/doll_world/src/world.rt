@@ -62,6 +62,7 @@ impl<K: Keeper, H: Shelf> World<K, H> {
         ensures shelf { result.shelf ≡ shelf }
         ensures checked { result.checked ≡ checked }
     {
+        // What these types are known to be is kept from here on: a history, and a set that was read and checked.
         let _history = records.history();
         let _templates = checked.get().typed().set().templates();
         World {
@@ -145,6 +146,7 @@ impl<K: Keeper, H: Shelf> World<K, H> {
         ensures checked { self.new.checked ≡ self.old.checked }
     {
         let committed = self.records.commit(alloc, author, serial, changes, now);
+        // The commits are a history again.
         let _history = self.records.history();
         committed
     }
