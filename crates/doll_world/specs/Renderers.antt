@@ -24,18 +24,18 @@ use Rattle.doll_world.specs.Worlds.{HitIsShown, IsSoundFor}
 
 -- Each block that pages reach and that asks so has this key and these versions.
 abbrev pub AsksByKey : ReadSet → List Route → Ground → Ask → Type 0
-AsksByKey set routes ground ask =
-    (block : Block) → IsBlock set ground.schema routes block → HaveTypes ground.table block.typing ask.vars
-    → ask ≡ asked ground.tree block.template block.number (block_keyed ground block ask.vars) ask.vars
-    → HasKey set ground.schema block ground.table ask.vars ask.key ask.versions
+AsksByKey set routes over ask =
+    (block : Block) → IsBlock set over.schema routes block → HaveTypes over.table block.typing ask.vars
+    → ask ≡ asked over.tree block.template block.number (block_keyed over block ask.vars) ask.vars
+    → HasKey set over.schema block over.table ask.vars ask.key ask.versions
 
 -- Each block that is handed in so has this key and these versions.
 abbrev pub HandsInByKey : ReadSet → List Route → Ground → Fresh → Type 0
-HandsInByKey set routes ground handed =
-    (block : Block) → IsBlock set ground.schema routes block → HaveTypes ground.table block.typing handed.vars
-    → handed ≡ fresh ground.tree ground.moment block.template block.number (block_keyed ground block handed.vars) handed.vars
-    (shows ground block handed.vars)
-    → HasKey set ground.schema block ground.table handed.vars handed.key handed.versions
+HandsInByKey set routes over handed =
+    (block : Block) → IsBlock set over.schema routes block → HaveTypes over.table block.typing handed.vars
+    → handed ≡ fresh over.tree over.moment block.template block.number (block_keyed over block handed.vars) handed.vars
+    (shows over block handed.vars)
+    → HasKey set over.schema block over.table handed.vars handed.key handed.versions
 
 -- What a world hits may be found by a renderer at whichever place of the history.
 abbrev pub HitsAreFound : Type 0
