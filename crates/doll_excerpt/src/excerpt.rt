@@ -48,12 +48,9 @@ pub fn put_place(paper: &mut Paper, source: &[u8], at: usize) -> Result<(), Memo
 /// Appends the line of a byte behind its number.
 pub fn put_line_at(paper: &mut Paper, source: &[u8], at: usize) -> Result<(), Memory> {
     put_gutter(paper, source, at)?;
-    let whole = Window {
-        skipped: 0,
-        from: 0,
-        to: 0,
-    };
-    put_window(paper, None, line_around(source, at), whole)?;
+    let line = line_around(source, at);
+    let window = window_of(source, line, Stretch { from: at, to: at });
+    put_window(paper, None, line, window)?;
     paper.put("\n")
 }
 
@@ -94,7 +91,7 @@ fn window_of(source: &[u8], line: &[u8], stretch: Stretch) -> Window {
 }
 
 /// How many digits a number below 1,000,000 has in decimal; a source has no more lines.
-fn digits_of(number: u64) -> usize {
+fn decimal_width(number: u64) -> usize {
     match number {
         0..=9 => 1,
         10..=99 => 2,
@@ -108,7 +105,7 @@ fn digits_of(number: u64) -> usize {
 /// Appends the number of a byte's line, right-aligned, and a bar.
 fn put_gutter(paper: &mut Paper, source: &[u8], at: usize) -> Result<(), Memory> {
     let number = place_of(source, at).line as u64;
-    put_spaces(paper, NUMBER_WIDTH.saturating_sub(digits_of(number)))?;
+    put_spaces(paper, NUMBER_WIDTH.saturating_sub(decimal_width(number)))?;
     paper.put_number(number)?;
     paper.put(" | ")
 }

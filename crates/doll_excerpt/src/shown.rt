@@ -29,7 +29,7 @@ pub(crate) fn width_of(one: char) -> usize {
         return TAB.len();
     }
     if is_hidden(one) {
-        return digits_of(one as u32).saturating_add(4);
+        return escape_width(one as u32).saturating_add(4);
     }
     1
 }
@@ -46,8 +46,8 @@ fn is_hidden(one: char) -> bool {
     }
 }
 
-/// How many digits a code below 65,536 has.
-fn digits_of(code: u32) -> usize {
+/// How many hexadecimal digits a code below 65,536 has.
+fn escape_width(code: u32) -> usize {
     match code {
         0..=0xf => 1,
         0x10..=0xff => 2,

@@ -16,6 +16,23 @@ pub const ROUTES: &str =
 pub const VIEWS: &str = r#""games/index.html.erb":"<p></p>""#;
 
 /// The explanation of an answer to an input.
+fn of_input<'a>(
+    alloc: Global,
+    answer: Answer,
+    input: &'a [u8],
+    path: &'a str,
+) -> Result<String, Memory> {
+    let answered = Answered {
+        input,
+        files: &[],
+        missed: None,
+        readings: &[],
+        path: Some(path),
+    };
+    explain(alloc, answer, answered)
+}
+
+/// That of an answer to an input with these parts.
 pub fn explained(
     alloc: Global,
     answer: Answer,
@@ -26,17 +43,7 @@ pub fn explained(
     for part in parts {
         input.extend_from_slice(part.as_bytes())?;
     }
-    explain(
-        alloc,
-        answer,
-        Answered {
-            input: input.as_slice(),
-            files: &[],
-            missed: None,
-            readings: &[],
-            path: Some(path),
-        },
-    )
+    of_input(alloc, answer, input.as_slice(), path)
 }
 
 /// That of an answer to a site with this template of a product's page, as JSON writes it.
