@@ -1,0 +1,9 @@
+pub mod Along
+pub mod Arms
+pub mod Collections
+pub mod Flows
+pub mod Keys
+pub mod Left
+pub mod Scopes
+pub mod Stacks
+pub mod Walks

@@ -1,0 +1,220 @@
+//! The key of a cached block over a table.
+
+ghost use Rattle.std.specs.Prelude.{◌≡◌, ◌+◌, ◌≤◌, ◌++◌, ◌∷◌, [], IfOk, OnOk, map, sum_by};
+ghost use Rattle.std.specs.List.{flat_map};
+ghost use Rattle.doll_table.specs.Fits.{Fits};
+ghost use Rattle.doll_eval.specs.Living.{AreLiving, IsLiving};
+ghost use Rattle.doll_frames.specs.Keys as spec;
+
+use doll_erb::KeyPart;
+use doll_eval::eval;
+use doll_expr::Expr;
+use doll_key::{Component, Components, KeyText, Versions, append_components, key_prefix};
+use doll_schema::{Schema, Val, Value, Vars};
+use doll_set::TemplateSet;
+use doll_table::Rows;
+use doll_text::{Copied, Items, Memory, Name};
+use doll_types::{TypeKind, Typing, ValueType, type_of};
+use std::alloc::Global;
+
+/// The key of a block: its text and the versions of its records.
+#[derive(Drop)]
+pub struct BlockKey {
+    pub text: KeyText,
+    pub versions: Versions,
+}
+
+impl Copied for BlockKey {
+    fn copy(&self, alloc: Global) -> Result<BlockKey, Memory> {
+        Ok(BlockKey {
+            text: self.text.copy(alloc)?,
+            versions: self.versions.copy(alloc)?,
+        })
+    }
+}
+
+/// The key of a block of the template with a number, by its parts, under types and values of variables. The variables must live
+/// in the table of `rows`, which must fit the schema.
+#[tactic(auto, unfolding(crate::specs::Keys::keyed_over))]
+pub fn block_key<R: Rows>(
+    alloc: Global,
+    set: &TemplateSet,
+    schema: &Schema,
+    number: usize,
+    typing: &Typing,
+    key: &[KeyPart],
+    vars: &Vars,
+    rows: &mut R,
+) -> Result<BlockKey, Memory>
+    requires fits { Fits schema.now (R.table rows.old) }
+    requires living { AreLiving (R.table rows.old) vars.now }
+    ensures text { IfOk result (λ k. k.text ≡ (spec.keyed_over set.now schema.now
+        (R.table rows.old) number typing.now key.now vars.now).text) }
+    ensures versions { IfOk result (λ k. k.versions ≡ (spec.keyed_over set.now schema.now
+        (R.table rows.old) number typing.now key.now vars.now).versions) }
+    ensures table { R.table rows.new ≡ R.table rows.old }
+    ensures looks { OnOk result (R.looks rows.new ≤ R.looks rows.old + (spec.keyed_over set.now
+        schema.now (R.table rows.old) number typing.now key.now vars.now).looks) }
+{
+    let mut components = Items::new(alloc);
+    let mut versions = Versions::new(alloc);
+    for part in key {
+        add_part(
+            alloc,
+            schema,
+            typing,
+            part,
+            vars,
+            rows,
+            &mut components,
+            &mut versions,
+        )?;
+    }
+    let text = text_at(alloc, set, number, components.as_slice())?;
+    Ok(BlockKey { text, versions })
+}
+
+/// The text of a key of the template with a number, by its components.
+fn text_at(
+    alloc: Global,
+    set: &TemplateSet,
+    number: usize,
+    components: &[Component],
+) -> Result<KeyText, Memory>
+    ensures { IfOk result (λ text. text ≡ spec.text_at set.now number components.now) }
+{
+    let Some(digest) = set.digest(number) else {
+        return Ok(KeyText::from_vec(Vec::new(alloc)));
+    };
+    let Some(template) = set.templates().get(number) else {
+        return Ok(KeyText::from_vec(Vec::new(alloc)));
+    };
+    let mut out = key_prefix(alloc, template.name.as_bytes(), digest)?;
+    append_components(components, &mut out)?;
+    Ok(KeyText::from_vec(out))
+}
+
+/// Appends what a part of a key is, and its version where it is a record.
+fn add_part<R: Rows>(
+    alloc: Global,
+    schema: &Schema,
+    typing: &Typing,
+    part: &KeyPart,
+    vars: &Vars,
+    rows: &mut R,
+    components: &mut Components,
+    versions: &mut Versions,
+) -> Result<(), Memory>
+    requires fits { Fits schema.now (R.table rows.old) }
+    requires living { AreLiving (R.table rows.old) vars.now }
+    ensures component { OnOk result (components.new ≡ components.old
+        ++ spec.part_component schema.now (R.table rows.old) typing.now vars.now part.now ∷ []) }
+    ensures versions { OnOk result (versions.new ≡ versions.old
+        ++ spec.part_versions schema.now (R.table rows.old) typing.now vars.now part.now) }
+    ensures table { R.table rows.new ≡ R.table rows.old }
+    ensures looks { R.looks rows.new ≤ R.looks rows.old
+        + spec.part_looks schema.now (R.table rows.old) typing.now vars.now part.now }
+{
+    match part {
+        KeyPart::Literal(text) => {
+            components.push(Component::Literal(text.copy(alloc)?))?;
+            Ok(())
+        }
+        KeyPart::Path(expr) => {
+            let of = type_of(alloc, schema, typing, expr)?;
+            let value = eval(alloc, expr, vars, schema, rows)?;
+            add_value(alloc, schema, of, value, rows, components, versions)
+        }
+    }
+}
+
+/// Appends a value by the type of its part, and its version where it is a record.
+fn add_value<R: Rows>(
+    alloc: Global,
+    schema: &Schema,
+    of: Result<ValueType, TypeKind>,
+    value: Val,
+    rows: &mut R,
+    components: &mut Components,
+    versions: &mut Versions,
+) -> Result<(), Memory>
+    requires fits { Fits schema.now (R.table rows.old) }
+    requires living { IsLiving (R.table rows.old) value }
+    ensures component { OnOk result
+        (components.new ≡ components.old ++ spec.component_by schema.now of value ∷ []) }
+    ensures versions { OnOk result
+        (versions.new ≡ versions.old ++ spec.versions_by (R.table rows.old) of value) }
+    ensures table { R.table rows.new ≡ R.table rows.old }
+    ensures looks { R.looks rows.new ≤ R.looks rows.old + spec.looks_by of value }
+{
+    match of {
+        Ok(ValueType::Record { model }) => {
+            let plural = plural_of(alloc, schema, model)?;
+            let id = id_of(&value);
+            versions.push(version_of(rows, schema, &value))?;
+            components.push(Component::Record { plural, id })?;
+            Ok(())
+        }
+        _ => {
+            components.push(Component::Scalar(single_of(value)))?;
+            Ok(())
+        }
+    }
+}
+
+/// The plural of the model with a number.
+fn plural_of(alloc: Global, schema: &Schema, model: u16) -> Result<Name, Memory>
+    ensures { IfOk result (λ plural. plural ≡ spec.plural_of schema.now model) }
+{
+    match schema.model(model) {
+        Some(of) => of.plural.copy(alloc),
+        None => Ok(Name::from_vec(Vec::new(alloc))),
+    }
+}
+
+/// The id of a record.
+fn id_of(value: &Val) -> Option<u32>
+    ensures { result ≡ spec.id_of value.now }
+{
+    match value {
+        Val::Record { id, .. } => Some(*id),
+        _ => None,
+    }
+}
+
+/// The value that is no record and no list.
+fn single_of(value: Val) -> Value
+    ensures { result ≡ spec.single_of value }
+{
+    match value {
+        Val::Plain(value) => value,
+        _ => Value::Nil,
+    }
+}
+
+/// The moment of a record's last change.
+fn version_of<R: Rows>(rows: &mut R, schema: &Schema, value: &Val) -> u64
+    requires fits { Fits schema.now (R.table rows.old) }
+    requires living { IsLiving (R.table rows.old) value.now }
+    ensures value { result ≡ spec.version_of (R.table rows.old) value.now }
+    ensures table { R.table rows.new ≡ R.table rows.old }
+    ensures looks { R.looks rows.new ≤ R.looks rows.old + spec.version_looks value.now }
+{
+    match value {
+        Val::Record { model, id } => record_version(rows, schema, *model, *id),
+        _ => 0,
+    }
+}
+
+fn record_version<R: Rows>(rows: &mut R, schema: &Schema, model: u16, id: u32) -> u64
+    requires fits { Fits schema.now (R.table rows.old) }
+    requires living { IsLiving (R.table rows.old) (Val.Record model id) }
+    ensures value { result ≡ spec.version_of (R.table rows.old) (Val.Record model id) }
+    ensures table { R.table rows.new ≡ R.table rows.old }
+    ensures looks { R.looks rows.new ≤ R.looks rows.old + 1 }
+{
+    let Some(row) = rows.row(model, id) else {
+        return 0;
+    };
+    row.updated_at
+}
