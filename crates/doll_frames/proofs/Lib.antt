@@ -1,6 +1,12 @@
 pub mod Alongs
 pub mod Arms
+pub mod Asks
 pub mod Beginnings
+pub mod Blocks
 pub mod Collections
+pub mod Depths
 pub mod Lefts
+pub mod Partials
+pub mod Parts
+pub mod Walking
 pub mod Wents

@@ -1,6 +1,7 @@
 pub mod Along
 pub mod Arms
 pub mod Collections
+pub mod Contexts
 pub mod Flows
 pub mod Keys
 pub mod Left

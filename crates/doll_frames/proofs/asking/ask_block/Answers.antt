@@ -1,0 +1,16 @@
+use Rattle.std.proofs.Common.{◌≡◌, ◌∷◌, ap, refl, sym, ◌∙◌, rules}
+use Rattle.doll_frames.specs.Flows.{ask_for}
+use Rattle.doll_frames.specs.declared.frame.Frame.TheVariants as frame
+use Rattle.doll_frames.proofs.Asks.{block_asked}
+use Rattle.doll_frames.specs.Contexts.{over_of}
+use Rattle.doll_frames.proofs.asking.ask_block.Goals as goal
+
+pub returns-clause-goes : goal.returns-clause-goes
+returns-clause-goes g c = λ body.
+    block_asked (over_of c.args.context.now (g.R.Rows.table c.args.rows.now)) c.args.context.now.levels c.args.context.now.number c.args.scope.now.typing c.args.scope.now.vars c.args.block c.args.key.now body
+    c.in_ok-key.key c.in_ok-ask.ask c.push.new.self (g.R.Rows.looks c.args.rows.now) (g.R.Rows.looks c.block_key.new.rows)
+    (search rules)
+    (search rules)
+    (c.in_ok-ask.ensures ∙ ap (ask_for c.in_ok-key.key c.args.scope.now.vars) c.block_id-block.ensures)
+    (c.in_ok-push.ensures.frames ∙ ap (λ fs. frame.Asked c.in_ok-key.key ∷ fs) c.requires.begins)
+    (search rules)
