@@ -1,10 +1,10 @@
 -- Carrying a rendering on, part by part.
-use Rattle.std.proofs.Common.{◌≡◌, ℕ, zero, ◌+◌, ◌≤◌, Bool, true, false, List, [], ◌∷◌, ◌++◌, map, Option, None, Some, refl, ap, sym, subst, ◌∙◌, arith}
+use Rattle.std.proofs.Common.{◌≡◌, ℕ, ◌+◌, ◌≤◌, false, List, [], ◌++◌, refl, ap, sym, subst, ◌∙◌, arith}
 use Rattle.std.proofs.lemmas.List.{append-nil, append_assoc}
 use Rattle.doll_entry.specs.declared.entry.Fresh.{Fresh}
 use Rattle.doll_run.specs.Rendering.{after_looks, after_text}
-use Rattle.doll_run.specs.Runs.{Reads, ReadsMany, Rest, Run, Writes}
-use Rattle.doll_frames.specs.Along.{Along, many_given, next, none_given, one_given}
+use Rattle.doll_run.specs.Runs.{Rest, Writes}
+use Rattle.doll_frames.specs.Along.{Along, next, none_given}
 use Rattle.doll_frames.specs.Flows.{is_done}
 use Rattle.doll_frames.specs.Left.{body_left}
 use Rattle.doll_frames.specs.Stacks.{Given}

@@ -1,5 +1,5 @@
 -- Asking for a block, and for the items of a cached collection.
-use Rattle.std.proofs.Common.{◌≡◌, ◌≢◌, ℕ, ◌+◌, ◌<◌, ◌≤◌, ◌^◌, Bool, List, [], ◌∷◌, ◌++◌, map, sum_by, length, Option, None, Some, All, IsSome, refl, ap, sym, subst, ◌∙◌, arith}
+use Rattle.std.proofs.Common.{◌≡◌, ℕ, ◌+◌, ◌<◌, ◌≤◌, ◌^◌, Bool, List, [], ◌∷◌, map, sum_by, length, Option, None, All, IsSome, refl, ap, sym, subst, ◌∙◌, arith}
 use Rattle.std.proofs.lemmas.List.{append-nil}
 use Rattle.std.proofs.lemmas.List.Elements.{All-map}
 use Rattle.std.proofs.lemmas.List.Folds.{fold-map}
@@ -12,24 +12,21 @@ use Rattle.doll_table.specs.Tables.{TableMap, row_of}
 use Rattle.doll_plain.specs.Direct.{Variables}
 use Rattle.doll_types.specs.declared.types.ValueType.{ValueType}
 use Rattle.doll_types.specs.Types.{Typing}
-use Rattle.doll_lint.specs.Blocks.{item_number}
 use Rattle.doll_entry.specs.declared.asks.Ask.{Ask}
-use Rattle.doll_run.specs.Pages.{Ground, levels_run}
-use Rattle.doll_run.specs.Rendering.{answers_to, for_each, found_or, item_asked, item_keyed, item_run, items_run, only, tree_runs}
-use Rattle.doll_run.specs.Runs.{Reads, ReadsMany, Rest, Run, Writes}
-use Rattle.doll_frames.specs.Along.{Along, Went, many_given, next, one_given}
+use Rattle.doll_run.specs.Pages.{Ground}
+use Rattle.doll_run.specs.Rendering.{answers_to, for_each, found_or, item_asked, item_keyed, item_run, items_run, tree_runs}
+use Rattle.doll_run.specs.Runs.{Reads, ReadsMany, Rest, Run}
+use Rattle.doll_frames.specs.Along.{Went, next}
 use Rattle.doll_frames.specs.Collections.{item_ask, item_looks, kept_item}
 use Rattle.doll_frames.specs.Flows.{ask_for, block_id}
 use Rattle.doll_frames.specs.Left.{block_anew, block_left, collection_left, kept_run, stage_at}
-use Rattle.doll_frames.specs.Stacks.{FramesLive, Given, KeptLives, Stopped}
-use Rattle.doll_frames.specs.Walks.{Lives, items_in}
+use Rattle.doll_frames.specs.Stacks.{FramesLive, Stopped}
 use Rattle.doll_frames.specs.declared.flow.Flow.TheVariants as flow
 use Rattle.doll_frames.specs.declared.frame.Frame.{Frame}
 use Rattle.doll_frames.specs.declared.frame.Frame.TheVariants as frame
 use Rattle.doll_frames.specs.declared.frame.Kept.{Kept}
 use Rattle.doll_frames.specs.declared.frame.KeptItem.{KeptItem}
 use Rattle.doll_frames.specs.declared.keys.BlockKey.{BlockKey}
-use Rattle.doll_frames.specs.declared.walk.Walk.{Walk}
 use Rattle.doll_frames.specs.Contexts.{over_of}
 use Rattle.doll_frames.specs.declared.context.Context.{Context}
 
@@ -146,5 +143,5 @@ module _ (context : Context) (table : TableMap) (levels number partial : ℕ) (n
   none_asked (id ∷ ids) none = absurd (omega (arith, none))
 
   pub kept_live : (ids : List ℕ) (items : List KeptItem) → items ≡ map one_kept ids → partial < 2 ^ 16 → All (λ id. IsSome (row_of table model id)) ids → FramesLive table (frame.AskedMany (kept_with items) ∷ [])
-  unfolding kept_item
+  unfolding kept_item FramesLive
   kept_live ids items is few all = ((few, subst (λ its. All (λ (item : KeptItem). IsSome (row_of table model item.id)) its) (sym is) (All-map (λ (item : KeptItem). IsSome (row_of table model item.id)) one_kept ids all)), tt)

@@ -1,5 +1,5 @@
 -- A part of a template begins where no frame says how far it came.
-use Rattle.std.proofs.Common.{◌≡◌, ℕ, Bool, true, false, List, [], ◌∷◌, refl}
+use Rattle.std.proofs.Common.{◌≡◌, ℕ, Bool, false, List, [], ◌∷◌, refl}
 use Rattle.doll_expr.specs.declared.expr.Expr.{Expr}
 use Rattle.doll_erb.specs.declared.node.Arm.{Arm}
 use Rattle.doll_erb.specs.declared.node.KeyPart.{KeyPart}

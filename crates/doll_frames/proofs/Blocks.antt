@@ -1,5 +1,5 @@
 -- What is left of a block, by where it stopped in it.
-use Rattle.std.proofs.Common.{◌≡◌, ℕ, ◌+◌, ◌≤◌, Bool, true, false, List, [], ◌∷◌, ◌++◌, Option, None, Some, refl, ap, sym, subst, ◌∙◌}
+use Rattle.std.proofs.Common.{◌≡◌, ℕ, true, false, List, [], ◌∷◌, ◌++◌, None, Some, refl, ap, sym, ◌∙◌}
 use Rattle.doll_erb.specs.declared.node.KeyPart.{KeyPart}
 use Rattle.doll_erb.specs.declared.node.Node.{Node}
 use Rattle.doll_plain.specs.Direct.{Variables}
@@ -7,10 +7,10 @@ use Rattle.doll_types.specs.Types.{Typing}
 use Rattle.doll_entry.specs.declared.entry.Fresh.{Fresh}
 use Rattle.doll_run.specs.Pages.{Ground}
 use Rattle.doll_run.specs.Rendering.{after_text, found_or, tree_runs}
-use Rattle.doll_run.specs.Runs.{Rest, Run}
-use Rattle.doll_frames.specs.Along.{Along, Went, none_given}
+use Rattle.doll_run.specs.Runs.{Rest}
+use Rattle.doll_frames.specs.Along.{Went, none_given}
 use Rattle.doll_frames.specs.Flows.{block_id, fresh_of, is_done}
-use Rattle.doll_frames.specs.Left.{block_anew, block_left, body_left, left, made, nodes_left, stage_at}
+use Rattle.doll_frames.specs.Left.{block_anew, block_left, body_left, made, nodes_left, stage_at}
 use Rattle.doll_frames.specs.Stacks.{Given, Stopped, first_is, is_block}
 use Rattle.doll_frames.specs.declared.flow.Flow.{Flow}
 use Rattle.doll_frames.specs.declared.flow.Flow.TheVariants as flow

@@ -1,13 +1,9 @@
 -- The items of a cached collection, one more.
-use Rattle.std.proofs.Common.{◌≡◌, ℕ, ◌+◌, ◌≤◌, ◌<◌, List, [], ◌∷◌, ◌++◌, map, take, length, get_or, sum_by, refl, ap, sym, subst, ◌∙◌, arith}
-use Rattle.std.specs.Prelude.{IsSome}
+use Rattle.std.proofs.Common.{◌≡◌, ℕ, List, [], ◌∷◌, ap, ◌∙◌}
 use Rattle.doll_erb.specs.declared.node.KeyPart.{KeyPart}
 use Rattle.doll_schema.specs.Models.{ModelList}
-use Rattle.doll_schema.specs.declared.value.Val.{Val}
 use Rattle.doll_schema.specs.declared.value.Val.TheVariants as val
 use Rattle.doll_table.specs.Tables.{TableMap}
-use Rattle.doll_entry.specs.declared.asks.Ask.{Ask}
-use Rattle.doll_entry.specs.declared.asks.BlockId.{BlockId}
 use Rattle.doll_set.specs.Sets.{ReadSet}
 use Rattle.doll_plain.specs.Direct.{Variables}
 use Rattle.doll_types.specs.declared.types.ValueType.{ValueType}

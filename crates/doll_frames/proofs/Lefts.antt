@@ -1,5 +1,5 @@
 -- What is left of nodes, by what is left of their parts.
-use Rattle.std.proofs.Common.{◌≡◌, ℕ, suc, ◌+◌, ◌<◌, ◌≤◌, Bool, true, false, List, [], ◌∷◌, ◌++◌, map, drop, length, get_or, Option, None, Some, refl, ap, sym, ◌∙◌, arith, rules, drop-cons}
+use Rattle.std.proofs.Common.{◌≡◌, ℕ, suc, ◌+◌, ◌<◌, ◌≤◌, Bool, true, false, List, [], ◌∷◌, map, drop, length, get_or, None, Some, refl, ap, sym, ◌∙◌, arith, rules, drop-cons}
 use Rattle.std.specs.Prelude.{slice_get}
 use Rattle.std.proofs.lemmas.List.{drop_all}
 use Rattle.doll_expr.specs.declared.expr.Expr.{Expr}
@@ -16,8 +16,8 @@ use Rattle.doll_plain.specs.Direct.{Variables}
 use Rattle.doll_types.specs.Types.{Typing}
 use Rattle.doll_run.specs.Pages.{Ground}
 use Rattle.doll_run.specs.Rendering.{Choice, Runs, Stage, after_looks, after_text, arm_step, chosen, looks_on, node_runs, run_step, tree_runs, value_on}
-use Rattle.doll_run.specs.Runs.{Rest, Run}
-use Rattle.doll_frames.specs.Left.{Left, block_anew, block_left, choice, collection_anew, collection_left, each_anew, each_left, if_anew, if_left, left, node_by, node_left, nodes_left, render_anew, render_left, stage_at, with_node}
+use Rattle.doll_run.specs.Runs.{Rest}
+use Rattle.doll_frames.specs.Left.{block_anew, block_left, choice, collection_anew, collection_left, each_anew, each_left, if_anew, if_left, left, node_by, node_left, nodes_left, render_anew, render_left, stage_at, with_node}
 use Rattle.doll_frames.specs.Stacks.{Given}
 use Rattle.doll_frames.specs.declared.frame.Frame.{Frame}
 use Rattle.doll_frames.specs.declared.frame.Frame.TheVariants as frame

@@ -3,9 +3,12 @@ pub mod Arms
 pub mod Asks
 pub mod Beginnings
 pub mod Blocks
+pub mod Carrying
 pub mod Collections
 pub mod Depths
 pub mod Lefts
+pub mod Lives
+pub mod Openings
 pub mod Partials
 pub mod Parts
 pub mod Walking

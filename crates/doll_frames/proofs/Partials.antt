@@ -1,5 +1,5 @@
 -- What is left of tags that render a partial, by where it stopped in them.
-use Rattle.std.proofs.Common.{◌≡◌, ℕ, zero, suc, ◌+◌, ◌<◌, ◌≤◌, Bool, true, false, List, [], ◌∷◌, ◌++◌, map, drop, length, get_or, Option, None, Some, Result, Ok, Err, refl, ap, sym, subst, ◌∙◌, arith}
+use Rattle.std.proofs.Common.{◌≡◌, ℕ, ◌+◌, ◌<◌, ◌≤◌, Bool, true, false, List, [], ◌∷◌, ◌++◌, drop, length, get_or, Option, None, Some, Result, Ok, Err, refl, ap, sym, ◌∙◌}
 use Rattle.doll_expr.specs.declared.expr.Expr.{Expr}
 use Rattle.doll_erb.specs.declared.node.Local.{Local}
 use Rattle.doll_schema.specs.declared.value.Val.{Val}
@@ -12,11 +12,11 @@ use Rattle.doll_types.specs.Types.{Typing}
 use Rattle.doll_lint.specs.Blocks.{item_number}
 use Rattle.doll_entry.specs.declared.entry.Fresh.{Fresh}
 use Rattle.doll_run.specs.Pages.{Ground, levels_run}
-use Rattle.doll_run.specs.Rendering.{Stage, after_looks, after_text, answers_to, collection_run, for_each, found_or, items_run, locals_looks, locals_on, looks_on, only, value_on, with_partial, with_type}
-use Rattle.doll_run.specs.Runs.{Rest, Run}
-use Rattle.doll_frames.specs.Along.{Along, Went, none_given}
+use Rattle.doll_run.specs.Rendering.{Stage, after_text, answers_to, collection_run, for_each, items_run, locals_looks, locals_on, looks_on, only, value_on, with_partial, with_type}
+use Rattle.doll_run.specs.Runs.{Rest}
+use Rattle.doll_frames.specs.Along.{Along, Went}
 use Rattle.doll_frames.specs.Flows.{block_id, fresh_of, is_done}
-use Rattle.doll_frames.specs.Left.{body_left, collection_anew, collection_left, kept_left, kept_run, kept_value, left, made, members_left, missed_run, partial_left, render_anew, render_left, resumed, stage_at, template_left, typed}
+use Rattle.doll_frames.specs.Left.{body_left, collection_anew, collection_left, kept_left, kept_run, kept_value, left, made, members_left, missed_run, partial_left, render_anew, render_left, resumed, stage_at, typed}
 use Rattle.doll_frames.specs.Scopes.{locals_by}
 use Rattle.doll_frames.specs.Stacks.{Given, Stopped, first_is, fragments, is_collection, is_partial}
 use Rattle.doll_frames.specs.Walks.{items_in, walk_by, walk_of}
@@ -28,9 +28,9 @@ use Rattle.doll_frames.specs.declared.frame.Kept.{Kept}
 use Rattle.doll_frames.specs.declared.frame.KeptItem.{KeptItem}
 use Rattle.doll_frames.specs.declared.scope.Scope.{Scope}
 use Rattle.doll_frames.specs.declared.walk.Walk.{Walk}
-use Rattle.doll_frames.proofs.Alongs.{along_from, along_looks, along_text, along_then, along_to}
+use Rattle.doll_frames.proofs.Alongs.{along_from, along_looks, along_to}
 use Rattle.doll_frames.proofs.Beginnings.{collection_begin, render_begin}
-use Rattle.doll_frames.proofs.Wents.{went_after, went_body, went_framed, went_from, went_handed, went_stopped}
+use Rattle.doll_frames.proofs.Wents.{went_body, went_framed, went_from, went_handed, went_stopped}
 use Rattle.doll_frames.proofs.Walking.{answers_in, answers_past, resumed_in, resumed_past, resumed_same, template_anew}
 
 -- ---- a partial with locals

@@ -1,12 +1,10 @@
 -- What is left of the parts of a template, by where it stopped in them.
-use Rattle.std.proofs.Common.{◌≡◌, ◌≢◌, ℕ, zero, suc, ◌+◌, ◌-◌, ◌<◌, ◌≤◌, Bool, true, false, cond, List, [], ◌∷◌, ◌++◌, map, drop, length, get_or, Option, None, Some, Result, Ok, Err, refl, ap, sym, subst, ◌∙◌, arith}
+use Rattle.std.proofs.Common.{◌≡◌, ◌≢◌, ℕ, zero, suc, ◌+◌, ◌-◌, ◌<◌, ◌≤◌, Bool, true, false, cond, List, [], ◌∷◌, ◌++◌, map, drop, length, get_or, Option, None, Some, Result, Ok, Err, refl, ap, sym, ◌∙◌, arith}
 use Rattle.std.specs.Prelude.{slice_get}
 use Rattle.std.specs.Option.{option_map_or}
 use Rattle.std.proofs.lemmas.List.{drop_all}
 use Rattle.doll_expr.specs.declared.expr.Expr.{Expr}
 use Rattle.doll_erb.specs.declared.node.Arm.{Arm}
-use Rattle.doll_erb.specs.declared.node.KeyPart.{KeyPart}
-use Rattle.doll_erb.specs.declared.node.Local.{Local}
 use Rattle.doll_erb.specs.declared.node.Node.{Node}
 use Rattle.doll_schema.specs.declared.value.Val.{Val}
 use Rattle.doll_schema.specs.declared.value.Val.TheVariants as val
@@ -15,32 +13,25 @@ use Rattle.doll_set.specs.declared.template.Template.{Template}
 use Rattle.doll_plain.specs.Direct.{Variables, items_of}
 use Rattle.doll_types.specs.declared.types.TypeKind.{TypeKind}
 use Rattle.doll_types.specs.declared.types.ValueType.{ValueType}
-use Rattle.doll_types.specs.Findings.{items_type, locals_typing}
+use Rattle.doll_types.specs.Findings.{items_type}
 use Rattle.doll_types.specs.Types.{Typing}
-use Rattle.doll_lint.specs.Blocks.{item_number}
-use Rattle.doll_entry.specs.declared.entry.Fresh.{Fresh}
-use Rattle.doll_run.specs.Pages.{Ground, levels_run}
-use Rattle.doll_run.specs.Rendering.{Runs, Stage, after_looks, after_text, chosen, collection_run, for_each, found_or, items_run, locals_looks, locals_on, looks_on, only, tree_runs, value_on, with_partial, with_type}
-use Rattle.doll_run.specs.Runs.{Rest, Run}
+use Rattle.doll_run.specs.Pages.{Ground}
+use Rattle.doll_run.specs.Rendering.{Stage, after_looks, chosen, for_each, looks_on, only, tree_runs, value_on, with_type}
+use Rattle.doll_run.specs.Runs.{Rest}
 use Rattle.doll_frames.specs.Along.{Along, Went}
 use Rattle.doll_frames.specs.Arms.{arm_body, chosen_place, tests_looks}
 use Rattle.doll_frames.specs.Flows.{is_done}
-use Rattle.doll_frames.specs.Left.{Left, block_anew, block_left, body_left, choice, collection_anew, collection_left, each_anew, each_left, if_anew, if_left, kept_left, kept_run, left, made, members_left, missed_run, nodes_left, node_left, partial_left, render_anew, render_left, resumed, stage_at, template_left, typed, walk_left}
-use Rattle.doll_frames.specs.Scopes.{locals_by}
-use Rattle.doll_frames.specs.Stacks.{Given, Stopped, first_is, fragments, is_arm, is_block, is_collection, is_item, is_node, is_partial}
-use Rattle.doll_frames.specs.Walks.{items_in, walk_by, walk_of}
+use Rattle.doll_frames.specs.Left.{choice, each_anew, each_left, if_anew, if_left, left, nodes_left, node_left, partial_left, resumed, stage_at, template_left, typed, walk_left}
+use Rattle.doll_frames.specs.Stacks.{Given, Stopped, first_is, is_arm, is_item}
+use Rattle.doll_frames.specs.Walks.{walk_by, walk_of}
 use Rattle.doll_frames.specs.declared.flow.Flow.{Flow}
 use Rattle.doll_frames.specs.declared.frame.Frame.{Frame}
 use Rattle.doll_frames.specs.declared.frame.Frame.TheVariants as frame
-use Rattle.doll_frames.specs.declared.frame.Kept.{Kept}
-use Rattle.doll_frames.specs.declared.keys.BlockKey.{BlockKey}
-use Rattle.doll_frames.specs.declared.scope.Scope.{Scope}
 use Rattle.doll_frames.specs.declared.walk.Walk.{Walk}
-use Rattle.doll_frames.proofs.Alongs.{along_before, along_from, along_stays, along_then, along_to}
-use Rattle.doll_frames.proofs.Beginnings.{block_begin, collection_begin, each_begin, if_begin, nodes_begin, render_begin}
-use Rattle.doll_frames.proofs.Lefts.{behind, behind_here, behind_last, node_anew, nodes_anew, nodes_in, nodes_past}
-use Rattle.doll_frames.proofs.Wents.{done_along, went_after, went_done, went_framed, went_from, went_on, went_stopped}
-use Rattle.doll_frames.proofs.Walking.{template_anew}
+use Rattle.doll_frames.proofs.Alongs.{along_before, along_from, along_then, along_to}
+use Rattle.doll_frames.proofs.Beginnings.{each_begin, if_begin}
+use Rattle.doll_frames.proofs.Lefts.{behind, behind_here, node_anew, nodes_anew, nodes_in}
+use Rattle.doll_frames.proofs.Wents.{done_along, went_after, went_framed, went_from, went_on, went_stopped}
 
 -- ---- templates
 

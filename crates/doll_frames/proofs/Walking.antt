@@ -1,6 +1,5 @@
 -- Going through the items of a list, from one on that goes on.
-use Rattle.std.proofs.Common.{◌≡◌, ℕ, zero, suc, ◌+◌, ◌<◌, ◌≤◌, Bool, true, false, List, [], ◌∷◌, ◌++◌, map, drop, length, get_or, Option, None, Some, refl, ap, sym, subst, ◌∙◌, arith}
-use Rattle.std.proofs.lemmas.List.{drop_all}
+use Rattle.std.proofs.Common.{◌≡◌, ℕ, zero, suc, ◌+◌, ◌<◌, ◌≤◌, Bool, true, false, List, [], ◌∷◌, ◌++◌, map, drop, length, get_or, Option, None, refl, ap, sym, ◌∙◌, arith}
 use Rattle.doll_erb.specs.declared.node.Node.{Node}
 use Rattle.doll_expr.specs.declared.expr.Expr.{Expr}
 use Rattle.doll_schema.specs.declared.value.Val.{Val}
@@ -10,19 +9,18 @@ use Rattle.doll_types.specs.declared.types.ValueType.{ValueType}
 use Rattle.doll_types.specs.Types.{Typing}
 use Rattle.doll_run.specs.Pages.{Ground, levels_run}
 use Rattle.doll_run.specs.Rendering.{answers_to, for_each, only}
-use Rattle.doll_run.specs.Runs.{Rest, Run}
+use Rattle.doll_run.specs.Runs.{Rest}
 use Rattle.doll_frames.specs.Along.{Along, Went}
 use Rattle.doll_frames.specs.Flows.{is_done}
-use Rattle.doll_frames.specs.Left.{Left, body_with, collection_left, each_left, left, members_left, nodes_left, partial_left, resumed, stage_at, template_left, typed, walk_left}
+use Rattle.doll_frames.specs.Left.{body_with, collection_left, each_left, left, members_left, nodes_left, partial_left, resumed, stage_at, template_left, typed, walk_left}
 use Rattle.doll_frames.specs.Stacks.{Given, Stopped}
-use Rattle.doll_frames.specs.Walks.{items_in, items_left}
+use Rattle.doll_frames.specs.Walks.{items_left}
 use Rattle.doll_frames.specs.declared.flow.Flow.{Flow}
-use Rattle.doll_frames.specs.declared.flow.Flow.TheVariants as flow
 use Rattle.doll_frames.specs.declared.frame.Frame.{Frame}
 use Rattle.doll_frames.specs.declared.frame.Frame.TheVariants as frame
 use Rattle.doll_frames.specs.declared.walk.Walk.{Walk}
-use Rattle.doll_frames.proofs.Alongs.{along_before, along_from, along_stays, along_then, along_to}
-use Rattle.doll_frames.proofs.Wents.{done_along, went_after, went_done, went_from, went_stopped}
+use Rattle.doll_frames.proofs.Alongs.{along_before, along_from, along_then, along_to}
+use Rattle.doll_frames.proofs.Wents.{done_along, went_after, went_from, went_stopped}
 
 -- ---- lists
 

@@ -1,7 +1,7 @@
 -- Carrying a part on to its end or to a call.
-use Rattle.std.proofs.Common.{◌≡◌, ℕ, ◌+◌, ◌≤◌, Bool, true, false, List, [], ◌∷◌, ◌++◌, Option, None, Some, refl, ap, sym, subst, ◌∙◌, arith}
+use Rattle.std.proofs.Common.{◌≡◌, ℕ, true, false, List, [], ◌++◌, refl, ap, sym, ◌∙◌}
 use Rattle.doll_entry.specs.declared.entry.Fresh.{Fresh}
-use Rattle.doll_run.specs.Runs.{Rest, Run}
+use Rattle.doll_run.specs.Runs.{Rest}
 use Rattle.doll_frames.specs.Along.{Along, Went, next, none_given}
 use Rattle.doll_frames.specs.Flows.{is_done}
 use Rattle.doll_frames.specs.Left.{body_left}
@@ -9,7 +9,7 @@ use Rattle.doll_frames.specs.Stacks.{Given, Stopped}
 use Rattle.doll_frames.specs.declared.flow.Flow.{Flow}
 use Rattle.doll_frames.specs.declared.flow.Flow.TheVariants as flow
 use Rattle.doll_frames.specs.declared.frame.Frame.{Frame}
-use Rattle.doll_frames.proofs.Alongs.{along_before, along_from, along_stays, along_then, along_to, body_done, body_stopped, stopped_before}
+use Rattle.doll_frames.proofs.Alongs.{along_before, along_from, along_then, along_to, body_done, body_stopped, stopped_before}
 
 -- nothing is left where it is done
 pub next_done : (stop : Flow) (left : Given → Rest → Rest) → is_done stop ≡ true → ◌≡◌ {A = Rest → Rest} (next stop left) (λ rest. rest)

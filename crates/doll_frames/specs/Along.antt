@@ -1,6 +1,6 @@
 -- How far a part of a rendering was carried (this project's own).
 use Rattle.std.specs.Prelude.{◌≡◌, ◌≤◌, ◌+◌, ◌++◌, ℕ, true, List, [], Option, None}
-use Rattle.doll_run.specs.Runs.{Reads, ReadsMany, Rest, Run, Writes}
+use Rattle.doll_run.specs.Runs.{Reads, ReadsMany, Rest, Writes}
 use Rattle.doll_frames.specs.Flows.{is_done}
 use Rattle.doll_frames.specs.Stacks.{Given, Stopped, given}
 use Rattle.doll_frames.specs.declared.flow.Flow.{Flow}

@@ -1,5 +1,5 @@
 -- What the parts of a template are rendered in (this project's own).
-use Rattle.std.specs.Prelude.{ℕ, ◌<◌, ◌≤◌, ◌^◌, length}
+use Rattle.std.specs.Prelude.{◌<◌, ◌≤◌, ◌^◌, length}
 use Rattle.doll_table.specs.Tables.{TableMap}
 use Rattle.doll_run.specs.Pages.{Ground}
 use Rattle.doll_frames.specs.Keys.{keyed_over}

@@ -1,5 +1,5 @@
 -- What is left of a rendering that stopped: what its frames mean (this project's own).
-use Rattle.std.specs.Prelude.{ℕ, zero, suc, ◌+◌, Bool, true, false, List, [], ◌∷◌, ◌++◌, drop, map, slice_get, Option, None, Some}
+use Rattle.std.specs.Prelude.{ℕ, zero, suc, ◌+◌, Bool, List, [], ◌∷◌, ◌++◌, drop, map, slice_get, Option, None, Some}
 use Rattle.doll_expr.specs.declared.expr.Expr.{Expr}
 use Rattle.doll_schema.specs.declared.value.Val.{Val}
 use Rattle.doll_schema.specs.declared.value.Val.TheVariants as val
@@ -17,7 +17,7 @@ use Rattle.doll_lint.specs.Blocks.{item_number}
 use Rattle.doll_entry.specs.declared.entry.Fresh.{Fresh}
 use Rattle.doll_run.specs.Pages.{Ground, levels_run, stage_in}
 use Rattle.doll_run.specs.Rendering.{Choice, Keyed, Runs, Stage, after_looks, answers_to, block_run, chosen, collection_run, for_each, found_or, fresh, locals_looks, locals_on, looks_on, node_runs, only, tree_runs, value_on, with_partial, with_type}
-use Rattle.doll_run.specs.Runs.{Ends, Reads, ReadsMany, Rest, Run, Writes}
+use Rattle.doll_run.specs.Runs.{Rest, Writes}
 use Rattle.doll_frames.specs.Arms.{arm_body}
 use Rattle.doll_frames.specs.Stacks.{Given, fragments}
 use Rattle.doll_frames.specs.Walks.{items_left}

@@ -1,10 +1,12 @@
 pub mod Along
 pub mod Arms
+pub mod Carried
 pub mod Collections
 pub mod Contexts
 pub mod Flows
 pub mod Keys
 pub mod Left
+pub mod Openings
 pub mod Scopes
 pub mod Stacks
 pub mod Walks

@@ -111,5 +111,5 @@ FrameLives table (frame.Missed kept written) = KeptLives table kept
 FrameLives table (frame.HandedIn kept) = KeptLives table kept
 FrameLives table other = ⊤
 
-abbrev pub FramesLive : TableMap → List Frame → Type 0
+unfoldable pub FramesLive : TableMap → List Frame → Type 0
 FramesLive table frames = AllByRecursion (FrameLives table) frames

@@ -1,5 +1,5 @@
 -- Records that are gone through one after another (this project's own).
-use Rattle.std.specs.Prelude.{◌≡◌, ℕ, List, [], drop, map, Option, None, Some, Result, Ok, Err}
+use Rattle.std.specs.Prelude.{◌≡◌, List, [], drop, map, Option, None, Some, Result, Ok, Err}
 use Rattle.doll_expr.specs.declared.expr.Expr.{Expr}
 use Rattle.doll_schema.specs.Models.{ModelList}
 use Rattle.doll_schema.specs.declared.value.Val.{Val}

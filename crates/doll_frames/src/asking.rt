@@ -60,6 +60,7 @@ pub fn write_value<R: Rows>(
 }
 
 /// Asks for a block.
+#[tactic(auto, using(crate::proofs::Lives::frame_pushed, crate::proofs::Lives::no_frames))]
 pub fn ask_block<R: Rows>(
     alloc: Global,
     context: &Context<'_>,
@@ -100,6 +101,7 @@ pub fn ask_block<R: Rows>(
 }
 
 /// Asks for all items of a cached collection, where there are any.
+#[tactic(auto, using(crate::proofs::Lives::frame_pushed, crate::proofs::Lives::no_frames))]
 pub fn ask_items<R: Rows>(
     alloc: Global,
     context: &Context<'_>,

@@ -1,7 +1,8 @@
-use Rattle.std.proofs.Common.{◌≡◌, ◌∷◌, ap, refl, sym, ◌∙◌, rules}
+use Rattle.std.proofs.Common.{◌∷◌, ap, ◌∙◌, rules}
 use Rattle.doll_frames.specs.Flows.{ask_for}
 use Rattle.doll_frames.specs.declared.frame.Frame.TheVariants as frame
 use Rattle.doll_frames.proofs.Asks.{block_asked}
+use Rattle.doll_frames.proofs.Lives.{frame_pushed}
 use Rattle.doll_frames.specs.Contexts.{over_of}
 use Rattle.doll_frames.proofs.asking.ask_block.Goals as goal
 
@@ -14,3 +15,7 @@ returns-clause-goes g c = λ body.
     (c.in_ok-ask.ensures ∙ ap (ask_for c.in_ok-key.key c.args.scope.now.vars) c.block_id-block.ensures)
     (c.in_ok-push.ensures.frames ∙ ap (λ fs. frame.Asked c.in_ok-key.key ∷ fs) c.requires.begins)
     (search rules)
+
+pub returns-clause-frames : goal.returns-clause-frames
+returns-clause-frames g c =
+    frame_pushed (g.R.Rows.table c.args.rows.now) (frame.Asked c.in_ok-key.key) c.args.stack.now.frames c.push.new.self.frames c.in_ok-push.ensures.frames tt c.requires.frames

@@ -1,10 +1,7 @@
-use Rattle.std.proofs.Common.{◌≡◌, ◌∷◌, [], List, ap, refl, sym, subst, ◌∙◌, rules, arith}
-use Rattle.doll_frames.proofs.Asks.{items_asked, kept_live, none_asked}
+use Rattle.std.proofs.Common.{◌∷◌, [], ap, sym, subst, ◌∙◌, rules}
+use Rattle.doll_frames.proofs.Asks.{items_asked, kept_live}
 use Rattle.doll_frames.specs.Stacks.{FramesLive}
-use Rattle.doll_frames.specs.declared.frame.Frame.{Frame}
 use Rattle.doll_frames.specs.declared.frame.Frame.TheVariants as frame
-use Rattle.doll_frames.specs.declared.frame.Kept.{Kept}
-use Rattle.doll_frames.specs.Contexts.{over_of}
 use Rattle.doll_frames.proofs.asking.ask_items.Goals as goal
 
 pub returns-clause-goes : goal.returns-clause-goes
