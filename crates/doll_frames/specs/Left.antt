@@ -40,7 +40,7 @@ kept_key key = record { text = key.text; versions = key.versions; looks = 0 }
 
 -- what is made of the bytes of a block
 abbrev pub made : Ground → ℕ → ℕ → BlockKey → Variables → List ℕ → Fresh
-made over template block key vars = fresh (stage_at over 0 template) template block (kept_key key) vars
+made over template block key vars = fresh over.tree over.moment template block (kept_key key) vars
 
 -- a node of a list, where it is there
 abbrev pub with_node : Option Node → (Node → Rest → Rest) → Rest → Rest
