@@ -4,6 +4,7 @@ pub mod Asks
 pub mod Beginnings
 pub mod Blocks
 pub mod Carrying
+pub mod Collecting
 pub mod Collections
 pub mod Depths
 pub mod Lefts
