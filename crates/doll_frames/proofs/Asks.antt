@@ -1,5 +1,6 @@
 -- Asking for a block, and for the items of a cached collection.
-use Rattle.std.proofs.Common.{◌≡◌, ℕ, ◌+◌, ◌<◌, ◌≤◌, ◌^◌, Bool, List, [], ◌∷◌, map, sum_by, length, Option, None, All, IsSome, refl, ap, sym, subst, ◌∙◌, arith}
+use Rattle.std.proofs.Common.{◌≡◌, ℕ, ◌+◌, ◌<◌, ◌≤◌, ◌^◌, ◌&&◌, Bool, true, cond, List, [], ◌∷◌, map, sum_by, length, Option, None, All, IsSome, refl, ap, sym, subst, ◌∙◌, arith}
+use Rattle.std.specs.List.{list_all}
 use Rattle.std.proofs.lemmas.List.{append-nil}
 use Rattle.std.proofs.lemmas.List.Elements.{All-map}
 use Rattle.std.proofs.lemmas.List.Folds.{fold-map}
@@ -14,10 +15,10 @@ use Rattle.doll_types.specs.declared.types.ValueType.{ValueType}
 use Rattle.doll_types.specs.Types.{Typing}
 use Rattle.doll_entry.specs.declared.asks.Ask.{Ask}
 use Rattle.doll_run.specs.Pages.{Ground}
-use Rattle.doll_run.specs.Rendering.{answers_to, for_each, found_or, item_asked, item_keyed, item_run, items_run, tree_runs}
+use Rattle.doll_run.specs.Rendering.{after_looks, answers_to, asked_items, for_each, found_or, have_keys, item_asked, item_keyed, item_plain, item_run, items_looks, items_run, tree_runs}
 use Rattle.doll_run.specs.Runs.{Reads, ReadsMany, Rest, Run}
 use Rattle.doll_frames.specs.Along.{Went, next}
-use Rattle.doll_frames.specs.Collections.{item_ask, item_looks, kept_item}
+use Rattle.doll_frames.specs.Collections.{item_ask, item_has_key, item_looks, kept_item}
 use Rattle.doll_frames.specs.Flows.{ask_for, block_id}
 use Rattle.doll_frames.specs.Left.{block_anew, block_left, collection_left, kept_run, stage_at}
 use Rattle.doll_frames.specs.Stacks.{FramesLive, Stopped}
@@ -43,17 +44,26 @@ module _ (over : Ground) (levels number : ℕ) (typing : Typing) (vars : Variabl
   read_is k frames is rest looks out =
       ap (λ fs. next (flow.Read (ask_for k vars (block_id over.tree number block))) (λ found. block_left over levels number block parts body typing vars found fs) rest looks out) (sym is)
 
-  pub block_asked : (k : BlockKey) (ask : Ask) (new : Stopped) (looks later : ℕ) → k.text ≡ (over.keyed number typing parts vars).text → k.versions ≡ (over.keyed number typing parts vars).versions
+  -- a block that has a key is asked for
+  keyed_run : (over.keyed number typing parts vars).is_key ≡ true → (rest : Rest) (looks : ℕ) (out : List ℕ)
+      → block_anew (stage_at over levels number) block parts body typing vars rest looks out
+      ≡ asking (over.keyed number typing parts vars).text (over.keyed number typing parts vars).versions rest (looks + (over.keyed number typing parts vars).looks) out
+  keyed_run is rest looks out =
+      ap (λ b. cond b (asking (over.keyed number typing parts vars).text (over.keyed number typing parts vars).versions rest (looks + (over.keyed number typing parts vars).looks) out)
+      (after_looks (over.keyed number typing parts vars).looks (tree_runs (stage_at over levels number) body typing vars rest) looks out)) is
+
+  pub block_asked : (k : BlockKey) (ask : Ask) (new : Stopped) (looks later : ℕ) → (over.keyed number typing parts vars).is_key ≡ true → k.text ≡ (over.keyed number typing parts vars).text → k.versions ≡ (over.keyed number typing parts vars).versions
       → ask ≡ ask_for k vars (block_id over.tree number block) → new.frames ≡ frame.Asked k ∷ [] → later ≤ looks + (over.keyed number typing parts vars).looks
       → Went (block_anew (stage_at over levels number) block parts body typing vars) (block_left over levels number block parts body typing vars) new looks later [] [] (flow.Read ask)
-  block_asked k ask new looks later text versions is frames within = record {
+  block_asked k ask new looks later keyed text versions is frames within = record {
     along = record {
       more = (over.keyed number typing parts vars).looks;
       text = [];
       within = within;
       written = refl;
       goes = λ rest n out.
-          ap (λ t. asking t (over.keyed number typing parts vars).versions rest (n + (over.keyed number typing parts vars).looks) out) (sym text)
+          keyed_run keyed rest n out
+          ∙ ap (λ t. asking t (over.keyed number typing parts vars).versions rest (n + (over.keyed number typing parts vars).looks) out) (sym text)
           ∙ ap (λ v. asking k.text v rest (n + (over.keyed number typing parts vars).looks) out) (sym versions)
           ∙ read_is k new.frames frames rest (n + (over.keyed number typing parts vars).looks) out
           ∙ ap (λ a. next (flow.Read a) (λ found. block_left over levels number block parts body typing vars found new.frames) rest (n + (over.keyed number typing parts vars).looks) out) (sym is)
@@ -77,6 +87,9 @@ module _ (context : Context) (table : TableMap) (levels number partial : ℕ) (n
   abbrev one_looks : ℕ → ℕ
   one_looks = item_looks context.set.now context.schema.now table partial name of model
 
+  abbrev one_has_key : ℕ → Bool
+  one_has_key = item_has_key context.set.now context.schema.now table partial name of model
+
   abbrev record_of : ℕ → Val
   record_of id = val.Record model id
 
@@ -99,12 +112,20 @@ module _ (context : Context) (table : TableMap) (levels number partial : ℕ) (n
   runs_are items (id ∷ ids) [] = ap (λ (more : Rest → Rest). λ (rest : Rest). item_run (stage_at over levels number) partial name of (record_of id, None) (more rest)) (runs_are items ids [])
   runs_are items (id ∷ ids) (one ∷ found) = ap (λ (more : Rest → Rest). λ (rest : Rest). item_run (stage_at over levels number) partial name of (record_of id, one) (more rest)) (runs_are items ids found)
 
-  -- some items are asked for at once
-  some_run : (items : List Val) → 0 < length items → (rest : Rest) (looks : ℕ) (out : List ℕ) → items_run (stage_at over levels number) partial name of items rest looks out
+  -- whether each item has a key
+  keys_are : (ids : List ℕ) → have_keys (stage_at over levels number) partial name of (map record_of ids) ≡ list_all one_has_key ids
+  unfolding item_has_key
+  keys_are [] = refl
+  keys_are (id ∷ ids) = ap (λ more. (item_keyed (stage_at over levels number) partial name of (record_of id)).is_key && more) (keys_are ids)
+
+  -- some items that have keys are asked for at once
+  some_run : (items : List Val) → 0 < length items → have_keys (stage_at over levels number) partial name of items ≡ true → (rest : Rest) (looks : ℕ) (out : List ℕ) → items_run (stage_at over levels number) partial name of items rest looks out
       ≡ ReadsMany (looks + sum_by (λ one. (item_keyed (stage_at over levels number) partial name of one).looks) items) (map (item_asked (stage_at over levels number) partial name of) items)
       (λ found. for_each (item_run (stage_at over levels number) partial name of) (answers_to items found) rest 0 out)
-  some_run [] some rest looks out = absurd (omega arith)
-  some_run (x ∷ items) some rest looks out = refl
+  some_run [] some keys rest looks out = absurd (omega arith)
+  some_run (x ∷ items) some keys rest looks out =
+      ap (λ b. cond b (asked_items (stage_at over levels number) partial name of (x ∷ items) rest looks out)
+      (after_looks (items_looks (stage_at over levels number) partial name of (x ∷ items)) (for_each (item_plain (stage_at over levels number) partial name of) (x ∷ items) rest) looks out)) keys
 
   many_is : (named : List ℕ) (list : Expr) (cached : Bool) (typing : Typing) (vars : Variables) (items : List KeptItem) (asks : List Ask) (frames : List Frame) → frames ≡ frame.AskedMany (kept_with items) ∷ [] → (rest : Rest) (looks : ℕ) (out : List ℕ)
       → ReadsMany looks asks (λ found. for_each (kept_run over levels name (kept_with items)) (answers_to items found) rest 0 out)
@@ -118,16 +139,16 @@ module _ (context : Context) (table : TableMap) (levels number partial : ℕ) (n
   mapped_some (id ∷ ids) some = omega arith
 
   pub items_asked : (named : List ℕ) (list : Expr) (cached : Bool) (typing : Typing) (vars : Variables) (ids : List ℕ) (items : List KeptItem) (asks : List Ask) (new : Stopped) (looks later : ℕ)
-      → 0 < length ids → items ≡ map one_kept ids → asks ≡ map one_ask ids → new.frames ≡ frame.AskedMany (kept_with items) ∷ [] → later ≤ looks + sum_by one_looks ids
+      → 0 < length ids → list_all one_has_key ids ≡ true → items ≡ map one_kept ids → asks ≡ map one_ask ids → new.frames ≡ frame.AskedMany (kept_with items) ∷ [] → later ≤ looks + sum_by one_looks ids
       → Went (items_run (stage_at over levels number) partial name of (map record_of ids)) (collection_left over levels number named list name cached typing vars) new looks later [] [] (flow.ReadMany asks)
-  items_asked named list cached typing vars ids items asks new looks later some kept_are asks_is frames within = record {
+  items_asked named list cached typing vars ids items asks new looks later some keys kept_are asks_is frames within = record {
     along = record {
       more = sum_by one_looks ids;
       text = [];
       within = within;
       written = refl;
       goes = λ rest n out.
-          some_run (map record_of ids) (mapped_some ids some) rest n out
+          some_run (map record_of ids) (mapped_some ids some) (keys_are ids ∙ keys) rest n out
           ∙ ap (λ s. ReadsMany (n + s) (map (item_asked (stage_at over levels number) partial name of) (map record_of ids)) (λ found. for_each (item_run (stage_at over levels number) partial name of) (answers_to (map record_of ids) found) rest 0 out)) (looks_are ids)
           ∙ ap (λ a. ReadsMany (n + sum_by one_looks ids) a (λ found. for_each (item_run (stage_at over levels number) partial name of) (answers_to (map record_of ids) found) rest 0 out)) (asks_are ids ∙ sym asks_is)
           ∙ (λ i. ReadsMany (n + sum_by one_looks ids) asks (λ found. runs_are items ids found i rest 0 out))

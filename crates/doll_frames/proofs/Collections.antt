@@ -1,5 +1,5 @@
 -- The items of a cached collection, one more.
-use Rattle.std.proofs.Common.{◌≡◌, ℕ, List, [], ◌∷◌, ap, ◌∙◌}
+use Rattle.std.proofs.Common.{◌≡◌, ℕ, true, List, [], ◌∷◌, ap, sym, ◌∙◌}
 use Rattle.doll_erb.specs.declared.node.KeyPart.{KeyPart}
 use Rattle.doll_schema.specs.Models.{ModelList}
 use Rattle.doll_schema.specs.declared.value.Val.TheVariants as val
@@ -11,7 +11,7 @@ use Rattle.doll_types.specs.Types.{Typing}
 use Rattle.doll_lint.specs.Blocks.{item_key}
 use Rattle.doll_run.specs.Rendering.{only}
 use Rattle.doll_frames.specs.Flows.{ask_for}
-use Rattle.doll_frames.specs.Collections.{item_ask, item_looks, kept_item, key_over, looks_over}
+use Rattle.doll_frames.specs.Collections.{is_key_over, item_ask, item_has_key, item_looks, kept_item, key_over, looks_over}
 use Rattle.doll_frames.specs.declared.frame.KeptItem.{KeptItem}
 use Rattle.doll_frames.specs.declared.keys.BlockKey.{BlockKey}
 
@@ -40,3 +40,11 @@ module _ (set : ReadSet) (schema : ModelList) (partial : ℕ) (name : List ℕ) 
   looks_made {t = t} {u = u} {key = key} {vars = own} tables types keys vars =
       ap (λ ty. looks_over set schema t partial ty key own) types ∙ ap (λ p. looks_over set schema t partial ((name, of) ∷ []) p own) keys
       ∙ ap (λ v. looks_over set schema t partial ((name, of) ∷ []) (item_key name) v) vars ∙ ap (λ w. looks_over set schema w partial ((name, of) ∷ []) (item_key name) (only name (val.Record model id))) tables
+
+  pub key_made : {t u : TableMap} {typing : Typing} {key : List KeyPart} {vars : Variables} → t ≡ u → typing ≡ (name, of) ∷ [] → key ≡ item_key name → vars ≡ (name, val.Record model id) ∷ []
+      → is_key_over set schema t partial typing key vars ≡ true → item_has_key set schema u partial name of model id ≡ true
+  unfolding item_has_key
+  key_made {t = t} {u = u} {key = key} {vars = own} tables types keys vars has =
+      sym (ap (λ ty. is_key_over set schema t partial ty key own) types ∙ ap (λ p. is_key_over set schema t partial ((name, of) ∷ []) p own) keys
+      ∙ ap (λ v. is_key_over set schema t partial ((name, of) ∷ []) (item_key name) v) vars ∙ ap (λ w. is_key_over set schema w partial ((name, of) ∷ []) (item_key name) (only name (val.Record model id))) tables)
+      ∙ has

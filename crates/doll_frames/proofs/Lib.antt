@@ -3,6 +3,7 @@ pub mod Arms
 pub mod Asks
 pub mod Beginnings
 pub mod Blocks
+pub mod Bytes
 pub mod Carrying
 pub mod Collecting
 pub mod Collections

@@ -2,7 +2,7 @@
 use Rattle.std.specs.Prelude.{◌<◌, ◌≤◌, ◌^◌, length}
 use Rattle.doll_table.specs.Tables.{TableMap}
 use Rattle.doll_run.specs.Pages.{Ground}
-use Rattle.doll_frames.specs.Keys.{keyed_over}
+use Rattle.doll_run.specs.Keys.{keyed_over}
 use Rattle.doll_frames.specs.declared.context.Context.{Context}
 
 -- what a context stands for over a table

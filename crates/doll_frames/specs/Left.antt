@@ -1,5 +1,5 @@
 -- What is left of a rendering that stopped: what its frames mean (this project's own).
-use Rattle.std.specs.Prelude.{ℕ, zero, suc, ◌+◌, Bool, List, [], ◌∷◌, ◌++◌, drop, map, slice_get, Option, None, Some}
+use Rattle.std.specs.Prelude.{ℕ, zero, suc, ◌+◌, Bool, true, List, [], ◌∷◌, ◌++◌, drop, map, slice_get, Option, None, Some}
 use Rattle.doll_expr.specs.declared.expr.Expr.{Expr}
 use Rattle.doll_schema.specs.declared.value.Val.{Val}
 use Rattle.doll_schema.specs.declared.value.Val.TheVariants as val
@@ -36,7 +36,7 @@ stage_at over levels number = stage_in over (levels_run over levels) number
 
 -- a key that is kept
 abbrev pub kept_key : BlockKey → Keyed
-kept_key key = record { text = key.text; versions = key.versions; looks = 0 }
+kept_key key = record { text = key.text; versions = key.versions; looks = 0; is_key = true }
 
 -- what is made of the bytes of a block
 abbrev pub made : Ground → ℕ → ℕ → BlockKey → Variables → List ℕ → Fresh

@@ -4,7 +4,6 @@ pub mod Carried
 pub mod Collections
 pub mod Contexts
 pub mod Flows
-pub mod Keys
 pub mod Left
 pub mod Openings
 pub mod Scopes

@@ -1,6 +1,7 @@
 //! The items of a cached collection.
 
-ghost use Rattle.std.specs.Prelude.{◌≡◌, ◌+◌, ◌≤◌, ◌<◌, ◌^◌, ◌++◌, ◌∷◌, [], IfOk, OnOk, map, sum_by, IsSome};
+ghost use Rattle.std.specs.Prelude.{◌≡◌, ◌+◌, ◌≤◌, ◌<◌, ◌^◌, ◌++◌, ◌∷◌, [], true, IfOk, OnOk, map, sum_by, IsSome};
+ghost use Rattle.std.specs.List.{list_all};
 ghost use Rattle.doll_table.specs.Fits.{Fits};
 ghost use Rattle.doll_table.specs.Tables.{row_of};
 ghost use Rattle.doll_lint.specs.Blocks.{item_key};
@@ -49,6 +50,8 @@ pub fn item_asks<R: Rows>(
         (R.table rows.old) partial name.now walk.now.of walk.now.model) walk.now.ids) }
     ensures asks { IfOk result (λ made. made.asks ≡ map (spec.item_ask set.now schema.now
         (R.table rows.old) tree partial name.now walk.now.of walk.now.model) walk.now.ids) }
+    ensures keys { OnOk result (list_all (spec.item_has_key set.now schema.now
+        (R.table rows.old) partial name.now walk.now.of walk.now.model) walk.now.ids ≡ true) }
     ensures table { R.table rows.new ≡ R.table rows.old }
     ensures looks { OnOk result (R.looks rows.new ≤ R.looks rows.old + sum_by (spec.item_looks
         set.now schema.now (R.table rows.old) partial name.now walk.now.of walk.now.model) walk.now.ids) }
@@ -77,7 +80,7 @@ pub fn item_asks<R: Rows>(
 }
 
 /// Appends an item with its key, and the question for it.
-#[tactic(auto, using(crate::proofs::Collections::item_made, crate::proofs::Collections::asked_made, crate::proofs::Collections::looks_made, doll_plain::proofs::Parts::alone_lives))]
+#[tactic(auto, using(crate::proofs::Collections::item_made, crate::proofs::Collections::asked_made, crate::proofs::Collections::looks_made, crate::proofs::Collections::key_made, doll_plain::proofs::Parts::alone_lives))]
 fn add_item<R: Rows>(
     alloc: Global,
     set: &TemplateSet,
@@ -99,6 +102,8 @@ fn add_item<R: Rows>(
         schema.now (R.table rows.old) partial name.now walk.now.of walk.now.model id ∷ []) }
     ensures asks { OnOk result (made.new.asks ≡ made.old.asks ++ spec.item_ask set.now
         schema.now (R.table rows.old) tree partial name.now walk.now.of walk.now.model id ∷ []) }
+    ensures has_key { OnOk result (spec.item_has_key set.now schema.now
+        (R.table rows.old) partial name.now walk.now.of walk.now.model id ≡ true) }
     ensures table { R.table rows.new ≡ R.table rows.old }
     ensures looks { OnOk result (R.looks rows.new ≤ R.looks rows.old + spec.item_looks set.now
         schema.now (R.table rows.old) partial name.now walk.now.of walk.now.model id) }
@@ -125,6 +130,8 @@ fn item_block_key<R: Rows>(
     requires living { spec.AreLiving (R.table rows.old) own.now.vars }
     ensures key { IfOk result (λ k. k ≡ spec.key_over set.now schema.now (R.table rows.old) partial
         own.now.typing key.now own.now.vars) }
+    ensures is_key { OnOk result (spec.is_key_over set.now schema.now (R.table rows.old) partial
+        own.now.typing key.now own.now.vars ≡ true) }
     ensures table { R.table rows.new ≡ R.table rows.old }
     ensures looks { OnOk result (R.looks rows.new ≤ R.looks rows.old + spec.looks_over set.now
         schema.now (R.table rows.old) partial own.now.typing key.now own.now.vars) }

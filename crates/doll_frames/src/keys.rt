@@ -1,10 +1,11 @@
 //! The key of a cached block over a table.
 
-ghost use Rattle.std.specs.Prelude.{◌≡◌, ◌+◌, ◌≤◌, ◌++◌, ◌∷◌, [], IfOk, OnOk, map, sum_by};
+ghost use Rattle.std.specs.Prelude.{◌≡◌, ◌+◌, ◌≤◌, ◌^◌, ◌++◌, ◌∷◌, [], true, nat_lt, IfOk, OnOk, map, sum_by};
+ghost use Rattle.std.specs.Int.Signed.{mag};
 ghost use Rattle.std.specs.List.{flat_map};
 ghost use Rattle.doll_table.specs.Fits.{Fits};
 ghost use Rattle.doll_eval.specs.Living.{AreLiving, IsLiving};
-ghost use Rattle.doll_frames.specs.Keys as spec;
+ghost use Rattle.doll_run.specs.Keys as spec;
 
 use doll_erb::KeyPart;
 use doll_eval::eval;
@@ -35,7 +36,7 @@ impl Copied for BlockKey {
 
 /// The key of a block of the template with a number, by its parts, under types and values of variables. The variables must live
 /// in the table of `rows`, which must fit the schema.
-#[tactic(auto, unfolding(crate::specs::Keys::keyed_over))]
+#[tactic(auto, unfolding(doll_run::specs::Keys::keyed_over))]
 pub fn block_key<R: Rows>(
     alloc: Global,
     set: &TemplateSet,
@@ -52,6 +53,8 @@ pub fn block_key<R: Rows>(
         (R.table rows.old) number typing.now key.now vars.now).text) }
     ensures versions { IfOk result (λ k. k.versions ≡ (spec.keyed_over set.now schema.now
         (R.table rows.old) number typing.now key.now vars.now).versions) }
+    ensures is_key { OnOk result ((spec.keyed_over set.now schema.now
+        (R.table rows.old) number typing.now key.now vars.now).is_key ≡ true) }
     ensures table { R.table rows.new ≡ R.table rows.old }
     ensures looks { OnOk result (R.looks rows.new ≤ R.looks rows.old + (spec.keyed_over set.now
         schema.now (R.table rows.old) number typing.now key.now vars.now).looks) }
@@ -111,12 +114,15 @@ fn add_part<R: Rows>(
         ++ spec.part_component schema.now (R.table rows.old) typing.now vars.now part.now ∷ []) }
     ensures versions { OnOk result (versions.new ≡ versions.old
         ++ spec.part_versions schema.now (R.table rows.old) typing.now vars.now part.now) }
+    ensures bounded { OnOk result (spec.is_bounded
+        (spec.part_component schema.now (R.table rows.old) typing.now vars.now part.now) ≡ true) }
     ensures table { R.table rows.new ≡ R.table rows.old }
     ensures looks { R.looks rows.new ≤ R.looks rows.old
         + spec.part_looks schema.now (R.table rows.old) typing.now vars.now part.now }
 {
     match part {
         KeyPart::Literal(text) => {
+            tell_bytes(text.as_bytes());
             components.push(Component::Literal(text.copy(alloc)?))?;
             Ok(())
         }
@@ -144,6 +150,7 @@ fn add_value<R: Rows>(
         (components.new ≡ components.old ++ spec.component_by schema.now of value ∷ []) }
     ensures versions { OnOk result
         (versions.new ≡ versions.old ++ spec.versions_by (R.table rows.old) of value) }
+    ensures bounded { OnOk result (spec.is_bounded (spec.component_by schema.now of value) ≡ true) }
     ensures table { R.table rows.new ≡ R.table rows.old }
     ensures looks { R.looks rows.new ≤ R.looks rows.old + spec.looks_by of value }
 {
@@ -156,7 +163,9 @@ fn add_value<R: Rows>(
             Ok(())
         }
         _ => {
-            components.push(Component::Scalar(single_of(value)))?;
+            let single = single_of(value);
+            tell_value(&single);
+            components.push(Component::Scalar(single))?;
             Ok(())
         }
     }
@@ -174,7 +183,8 @@ fn plural_of(alloc: Global, schema: &Schema, model: u16) -> Result<Name, Memory>
 
 /// The id of a record.
 fn id_of(value: &Val) -> Option<u32>
-    ensures { result ≡ spec.id_of value.now }
+    ensures id { result ≡ spec.id_of value.now }
+    ensures bounded { spec.is_id result ≡ true }
 {
     match value {
         Val::Record { id, .. } => Some(*id),
@@ -191,6 +201,28 @@ fn single_of(value: Val) -> Value
         _ => Value::Nil,
     }
 }
+
+/// A whole number of a value has 64 bits, and its text is made of bytes.
+fn tell_value(value: &Value)
+    ensures { spec.is_value value.now ≡ true }
+{
+    match value {
+        Value::Nil => {}
+        Value::Bool(_) => {}
+        Value::Int(number) => tell_number(*number),
+        Value::Text(text) => tell_bytes(text.as_bytes()),
+    }
+}
+
+/// A whole number has 64 bits.
+fn tell_number(number: i64)
+    ensures { nat_lt (mag number) (2 ^ 63) ≡ true }
+{}
+
+/// A text is made of bytes.
+fn tell_bytes(text: &[u8])
+    ensures { spec.are_bytes text.now ≡ true }
+{}
 
 /// The moment of a record's last change.
 fn version_of<R: Rows>(rows: &mut R, schema: &Schema, value: &Val) -> u64

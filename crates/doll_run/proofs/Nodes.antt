@@ -1,7 +1,7 @@
 -- What a node runs writes what it writes directly.
-use Rattle.std.proofs.Common.{◌≡◌, ℕ, Bool, true, false, cond, List, [], ◌∷◌, ◌++◌, map, Option, None, Some, Result, Ok, Err, refl, ap, sym, subst, ◌∙◌}
+use Rattle.std.proofs.Common.{◌≡◌, ℕ, Bool, true, false, cond, ◌&&◌, List, [], ◌∷◌, ◌++◌, map, Option, None, Some, Result, Ok, Err, refl, ap, sym, subst, ◌∙◌}
 use Rattle.std.specs.Prelude.{IfSome}
-use Rattle.std.specs.List.{AllByRecursion, flat_map}
+use Rattle.std.specs.List.{AllByRecursion, flat_map, list_all}
 use Rattle.std.specs.Option.{option_map_or}
 use Rattle.std.proofs.lemmas.List.Folds.{flat_map-map}
 use Rattle.doll_text.specs.Steps.{◌>>=◌}
@@ -37,7 +37,7 @@ use Rattle.doll_entry.specs.declared.asks.Ask.{Ask}
 use Rattle.doll_entry.specs.declared.entry.Fresh.{Fresh}
 use Rattle.doll_run.specs.Direct.{AreFound, Follows, IsRight, WritesOnly}
 use Rattle.doll_run.specs.Pages.{Ground, stage_in}
-use Rattle.doll_run.specs.Rendering.{Choice, Runs, Stage, after_text, answers_to, arm_step, block_run, chosen, collection_run, for_each, fresh, in_turn, item_asked, item_keyed, item_run, items_run, locals_looks, locals_on, looks_on, node_runs, only, run_step, value_on, with_partial, with_type}
+use Rattle.doll_run.specs.Rendering.{Choice, Runs, Stage, after_looks, after_text, answers_to, arm_step, asked_items, block_run, chosen, collection_run, for_each, fresh, have_keys, in_turn, item_asked, item_keyed, item_plain, item_run, items_looks, items_run, locals_looks, locals_on, looks_on, node_runs, only, run_step, value_on, with_partial, with_type}
 use Rattle.doll_run.specs.Runs.{Rest}
 use Rattle.doll_run.proofs.Parts.{block_written, each_written, found_written, if_right, looks_first, nothing_written, one_then, text_written, written_as}
 use Rattle.doll_run.proofs.Typed.{walked}
@@ -57,6 +57,15 @@ no_texts (x ∷ items) = no_texts items
 each_has : {X : Type 0} (P Q : X → Type 0) (xs : List X) → ((x : X) → P x → Q x) → AllByRecursion P xs → AllByRecursion Q xs
 each_has P Q [] implies all = tt
 each_has P Q (x ∷ xs) implies all = (implies x all.0, each_has P Q xs implies all.1)
+
+-- where all pass, each does
+each_passes : {X : Type 0} (p : X → Bool) (xs : List X) → list_all p xs ≡ true → AllByRecursion (λ x. p x ≡ true) xs
+each_passes p [] all = tt
+each_passes p (x ∷ xs) all = by (p x) refl (each_passes p xs) all
+  where
+    by : (b : Bool) → p x ≡ b → (list_all p xs ≡ true → AllByRecursion (λ x. p x ≡ true) xs) → (b && list_all p xs) ≡ true → (p x ≡ true) × AllByRecursion (λ x. p x ≡ true) xs
+    by true is more all = (is, more all)
+    by false is more all = absurd (cc all)
 
 -- No fault is found, and each partial that is rendered writes what it writes directly.
 abbrev pub IsSound : Ground → (ℕ → Runs) → (Ask → List ℕ → Type 0) → (Fresh → Type 0) → ℕ → Finding → Type 0
@@ -185,32 +194,42 @@ module _ (over : Ground) (runs : ℕ → Runs) (Found : Ask → List ℕ → Typ
   answered partial name (x ∷ items) (one ∷ found) = ap (λ more. text_of partial name x ++ more) (answered partial name items found)
 
   item_well : (partial : ℕ) (name : List ℕ) (t : ValueType) → IsRight over Found Made (item_block over.templates partial name t) → ((vars : Variables) → HaveTypes over.table ((name, t) ∷ []) vars → Only (writes partial vars) (runs partial ((name, t) ∷ []) vars))
-      → (x : Val) (found : Option (List ℕ)) → HasType over.table t x → IfSome found (Found (item_asked stage partial name t x)) → Only (text_of partial name x) (item_run stage partial name t (x, found))
-  item_well partial name t right sound x found has is =
+      → (x : Val) (found : Option (List ℕ)) → HasType over.table t x → (item_keyed stage partial name t x).is_key ≡ true → IfSome found (Found (item_asked stage partial name t x)) → Only (text_of partial name x) (item_run stage partial name t (x, found))
+  item_well partial name t right sound x found has key is =
       let have = only_has name t x has in
       let same = whole_template partial (only name x) in
       found_written Found Made found (text_of partial name x) (runs partial ((name, t) ∷ []) (only name x)) (fresh stage.tree stage.moment partial item_number (item_keyed stage partial name t x) (only name x))
-      (if_right Found Made (item_asked stage partial name t x) (text_of partial name x) (λ bytes may. right.found (only name x) have bytes may ∙ same) found is)
-      (subst (λ text. Made (fresh stage.tree stage.moment partial item_number (item_keyed stage partial name t x) (only name x) text)) same (right.made (only name x) have))
+      (if_right Found Made (item_asked stage partial name t x) (text_of partial name x) (λ bytes may. right.found (only name x) have key bytes may ∙ same) found is)
+      (subst (λ text. Made (fresh stage.tree stage.moment partial item_number (item_keyed stage partial name t x) (only name x) text)) same (right.made (only name x) have key))
       (sound (only name x) have)
 
   items_answered : (partial : ℕ) (name : List ℕ) (t : ValueType) → IsRight over Found Made (item_block over.templates partial name t) → ((vars : Variables) → HaveTypes over.table ((name, t) ∷ []) vars → Only (writes partial vars) (runs partial ((name, t) ∷ []) vars))
-      → (items : List Val) (found : List (Option (List ℕ))) → AllByRecursion (HasType over.table t) items → AreFound Found (map (item_asked stage partial name t) items) found
+      → (items : List Val) (found : List (Option (List ℕ))) → AllByRecursion (HasType over.table t) items → AllByRecursion (λ one. (item_keyed stage partial name t one).is_key ≡ true) items → AreFound Found (map (item_asked stage partial name t) items) found
       → AllByRecursion (λ (one : Val × Option (List ℕ)). Only (text_of partial name one.0) (item_run stage partial name t one)) (answers_to items found)
-  items_answered partial name t right sound [] found have are = tt
-  items_answered partial name t right sound (x ∷ items) [] have are = (item_well partial name t right sound x None have.0 tt, items_answered partial name t right sound items [] have.1 (none_asked items))
+  items_answered partial name t right sound [] found have keys are = tt
+  items_answered partial name t right sound (x ∷ items) [] have keys are = (item_well partial name t right sound x None have.0 keys.0 tt, items_answered partial name t right sound items [] have.1 keys.1 (none_asked items))
     where
       none_asked : (items : List Val) → AreFound Found (map (item_asked stage partial name t) items) []
       none_asked [] = tt
       none_asked (y ∷ ys) = tt
-  items_answered partial name t right sound (x ∷ items) (one ∷ found) have are = (item_well partial name t right sound x one have.0 are.0, items_answered partial name t right sound items found have.1 are.1)
+  items_answered partial name t right sound (x ∷ items) (one ∷ found) have keys are = (item_well partial name t right sound x one have.0 keys.0 are.0, items_answered partial name t right sound items found have.1 keys.1 are.1)
 
   items_well : (partial : ℕ) (name : List ℕ) (t : ValueType) → IsRight over Found Made (item_block over.templates partial name t) → ((vars : Variables) → HaveTypes over.table ((name, t) ∷ []) vars → Only (writes partial vars) (runs partial ((name, t) ∷ []) vars))
       → (items : List Val) → AllByRecursion (HasType over.table t) items → Only (flat_map (text_of partial name) items) (items_run stage partial name t items)
   items_well partial name t right sound [] have = nothing_written Found Made
-  items_well partial name t right sound (x ∷ items) have = λ page out rest follows looks found are.
-      each_written Found Made (λ (one : Val × Option (List ℕ)). text_of partial name one.0) (item_run stage partial name t) (answers_to (x ∷ items) found) (items_answered partial name t right sound (x ∷ items) found have are) page out rest
-      (subst (λ text. Follows Found Made page (out ++ text) rest) (sym (answered partial name (x ∷ items) found)) follows) 0
+  items_well partial name t right sound (x ∷ items) have = by (have_keys stage partial name t (x ∷ items)) refl
+    where
+      by : (b : Bool) → have_keys stage partial name t (x ∷ items) ≡ b
+          → Only (flat_map (text_of partial name) (x ∷ items))
+          (λ rest looks out. cond b (asked_items stage partial name t (x ∷ items) rest looks out) (after_looks (items_looks stage partial name t (x ∷ items)) (for_each (item_plain stage partial name t) (x ∷ items) rest) looks out))
+      by true is = λ page out rest follows looks found are.
+          each_written Found Made (λ (one : Val × Option (List ℕ)). text_of partial name one.0) (item_run stage partial name t) (answers_to (x ∷ items) found)
+          (items_answered partial name t right sound (x ∷ items) found have (each_passes (λ one. (item_keyed stage partial name t one).is_key) (x ∷ items) is) are) page out rest
+          (subst (λ text. Follows Found Made page (out ++ text) rest) (sym (answered partial name (x ∷ items) found)) follows) 0
+      by false is =
+          looks_first Found Made (flat_map (text_of partial name) (x ∷ items)) (items_looks stage partial name t (x ∷ items)) (for_each (item_plain stage partial name t) (x ∷ items))
+          (each_written Found Made (text_of partial name) (item_plain stage partial name t) (x ∷ items)
+          (each_has (HasType over.table t) (λ one. Only (text_of partial name one) (item_plain stage partial name t one)) (x ∷ items) (λ one has. sound (only name one) (only_has name t one has)) have))
 
   -- ---- nodes
 

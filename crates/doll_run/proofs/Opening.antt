@@ -86,8 +86,8 @@ module _ (set : ReadSet) (schema : ModelList) (routes : List Route) (table : Tab
 -- each block that a page reaches is answered and handed in rightly
 all_right : (set : ReadSet) (routes : List Route) (over : Ground) (block : Block) → IsBlock set over.schema routes block → IsRight over (IsShown set routes over) (IsHandedIn set routes over) block
 all_right set routes over block is = record {
-  found = λ vars have bytes shown. shown block is have refl;
-  made = λ vars have. record { block = block; is_block = is; types = have; is = refl };
+  found = λ vars have key bytes shown. shown block is have key refl;
+  made = λ vars have key. record { block = block; is_block = is; types = have; is_key = key; is = refl };
 }
 
 pub pages_come : PagesComeOut

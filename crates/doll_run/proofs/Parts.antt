@@ -1,5 +1,5 @@
 -- Parts of a rendering, one after another.
-use Rattle.std.proofs.Common.{◌≡◌, ℕ, ◌+◌, List, [], ◌∷◌, ◌++◌, Option, None, Some, sym, subst}
+use Rattle.std.proofs.Common.{◌≡◌, ℕ, ◌+◌, Bool, true, false, cond, List, [], ◌∷◌, ◌++◌, Option, None, Some, refl, sym, subst}
 use Rattle.std.specs.Prelude.{IfSome}
 use Rattle.std.specs.List.{AllByRecursion, flat_map}
 use Rattle.std.proofs.lemmas.List.{append-nil, append_assoc}
@@ -7,7 +7,7 @@ use Rattle.doll_entry.specs.declared.asks.Ask.{Ask}
 use Rattle.doll_entry.specs.declared.entry.Fresh.{Fresh}
 use Rattle.doll_plain.specs.Direct.{Variables}
 use Rattle.doll_run.specs.Direct.{Comes, Follows, WritesOnly}
-use Rattle.doll_run.specs.Rendering.{Keyed, Stage, after_looks, after_text, asked, block_run, for_each, found_or, fresh}
+use Rattle.doll_run.specs.Rendering.{Keyed, Stage, after_looks, after_text, asked, asked_run, block_run, for_each, found_or, fresh}
 use Rattle.doll_run.specs.Runs.{Rest, Writes}
 
 module _ (Found : Ask → List ℕ → Type 0) (Made : Fresh → Type 0) where
@@ -43,7 +43,11 @@ module _ (Found : Ask → List ℕ → Type 0) (Made : Fresh → Type 0) where
   if_right ask shown right (Some bytes) is = right bytes is
 
   pub block_written : (stage : Stage) (template block : ℕ) (key : Keyed) (vars : Variables) (shown : List ℕ) (body : Rest → Rest)
-      → ((bytes : List ℕ) → Found (asked stage.tree template block key vars) bytes → bytes ≡ shown) → Made (fresh stage.tree stage.moment template block key vars shown) → WritesOnly Found Made shown body
+      → (key.is_key ≡ true → (bytes : List ℕ) → Found (asked stage.tree template block key vars) bytes → bytes ≡ shown) → (key.is_key ≡ true → Made (fresh stage.tree stage.moment template block key vars shown)) → WritesOnly Found Made shown body
       → WritesOnly Found Made shown (block_run stage template block key vars body)
-  block_written stage template block key vars shown body right made writes page out rest follows looks found is =
-      found_written found shown body (fresh stage.tree stage.moment template block key vars) (if_right (asked stage.tree template block key vars) shown right found is) made writes page out rest follows 0
+  block_written stage template block key vars shown body right made writes = by key.is_key refl
+    where
+      by : (b : Bool) → key.is_key ≡ b → WritesOnly Found Made shown (λ rest looks out. cond b (asked_run stage template block key vars body rest looks out) (after_looks key.looks (body rest) looks out))
+      by true is = λ page out rest follows looks found may.
+          found_written found shown body (fresh stage.tree stage.moment template block key vars) (if_right (asked stage.tree template block key vars) shown (right is) found may) (made is) writes page out rest follows 0
+      by false is = looks_first shown key.looks body writes

@@ -38,10 +38,10 @@ RouteVariablesHaveTypes =
 
 -- ---- what a cache may answer
 
--- What is found for a question is what each block shows that asks it, of those that pages reach.
+-- What is found for a question is what each block shows that asks it by its key, of those that pages reach.
 abbrev pub IsShown : ReadSet → List Route → Ground → Ask → List ℕ → Type 0
 IsShown set routes over ask bytes =
-    (block : Block) → IsBlock set over.schema routes block → HaveTypes over.table block.typing ask.vars
+    (block : Block) → IsBlock set over.schema routes block → HaveTypes over.table block.typing ask.vars → (block_keyed over block ask.vars).is_key ≡ true
     → ask ≡ asked over.tree block.template block.number (block_keyed over block ask.vars) ask.vars → bytes ≡ shows over block ask.vars
 
 -- What is handed in is what some block shows that a page reaches, under its key, with variables of its types.
@@ -49,6 +49,7 @@ pub record IsHandedIn (set : ReadSet) (routes : List Route) (over : Ground) (han
   pub block : Block
   pub is_block : IsBlock set over.schema routes block
   pub types : HaveTypes over.table block.typing handed.vars
+  pub is_key : (block_keyed over block handed.vars).is_key ≡ true
   pub is : handed ≡ fresh over.tree over.moment block.template block.number (block_keyed over block handed.vars) handed.vars (shows over block handed.vars)
 
 -- In a typed set: where each block is answered by what it shows with no cache, if it is answered at all, the page of a route that is rendered through the cache is

@@ -1,5 +1,5 @@
 -- Rendering through a cache that answers with what direct rendering writes (this project's own).
-use Rattle.std.specs.Prelude.{◌≡◌, ◌++◌, ℕ, List, [], ◌∷◌, Option, IfSome, ⊤}
+use Rattle.std.specs.Prelude.{◌≡◌, ◌++◌, ℕ, true, List, [], ◌∷◌, Option, IfSome, ⊤}
 use Rattle.doll_entry.specs.declared.asks.Ask.{Ask}
 use Rattle.doll_entry.specs.declared.entry.Fresh.{Fresh}
 use Rattle.doll_plain.specs.Direct.{Variables, direct}
@@ -43,9 +43,9 @@ shows over block vars =
 abbrev pub block_keyed : Ground → Block → Variables → Keyed
 block_keyed over block vars = over.keyed block.template block.typing block.key vars
 
--- Under any variables that have its types, a block is answered by what it shows, and is handed in as it must be.
+-- Under any variables that have its types and of which it has a key, a block is answered by what it shows, and is handed in as it must be.
 pub record IsRight (over : Ground) (Found : Ask → List ℕ → Type 0) (Made : Fresh → Type 0) (block : Block) : Type 0 where
-  pub found : (vars : Variables) → HaveTypes over.table block.typing vars → (bytes : List ℕ)
+  pub found : (vars : Variables) → HaveTypes over.table block.typing vars → (block_keyed over block vars).is_key ≡ true → (bytes : List ℕ)
       → Found (asked over.tree block.template block.number (block_keyed over block vars) vars) bytes → bytes ≡ shows over block vars
-  pub made : (vars : Variables) → HaveTypes over.table block.typing vars
+  pub made : (vars : Variables) → HaveTypes over.table block.typing vars → (block_keyed over block vars).is_key ≡ true
       → Made (fresh over.tree over.moment block.template block.number (block_keyed over block vars) vars (shows over block vars))

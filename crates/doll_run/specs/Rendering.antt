@@ -1,5 +1,6 @@
 -- Rendering through a cache: what a template asks for, hands in and writes, by the recursion of direct rendering (this project's own).
 use Rattle.std.specs.Prelude.{ℕ, ◌+◌, Bool, true, false, List, [], ◌∷◌, ◌++◌, map, Option, None, Some, Result, Ok, Err, if◌then◌else◌, sum_by}
+use Rattle.std.specs.List.{list_all}
 use Rattle.doll_schema.specs.Models.{ModelList}
 use Rattle.doll_schema.specs.declared.value.Val.{Val}
 use Rattle.doll_expr.specs.declared.expr.Expr.{Expr}
@@ -23,11 +24,12 @@ use Rattle.doll_run.specs.Runs.{Reads, ReadsMany, Rest, Writes}
 
 -- ---- what a rendering goes by
 
--- what a key of a block is over a table: its text, its versions, and the looks that making it may take
+-- what a key of a block is over a table: its text, its versions, the looks that making it may take, and whether what it is made of may stand in a key
 pub record Keyed : Type 0 where
   pub text : List ℕ
   pub versions : List ℕ
   pub looks : ℕ
+  pub is_key : Bool
 
 -- what a part of a template runs under types and values of its variables, before what follows
 abbrev pub Runs : Type 0
@@ -98,10 +100,15 @@ abbrev pub found_or : Option (List ℕ) → (Rest → Rest) → (List ℕ → Fr
 found_or (Some bytes) body made rest looks out = rest looks (out ++ bytes)
 found_or None body made rest looks out = body (λ more inner. Writes more (made inner) (rest 0 (out ++ inner))) looks []
 
--- a block of a template with a number: it is asked for, and then what was found stands in its place
+-- it is asked for, and then what was found stands in its place
+abbrev pub asked_run : Stage → ℕ → ℕ → Keyed → Variables → (Rest → Rest) → Rest → Rest
+asked_run stage template block key vars body rest looks out =
+    Reads (looks + key.looks) (asked stage.tree template block key vars) (λ found. found_or found body (fresh stage.tree stage.moment template block key vars) rest 0 out)
+
+-- a block of a template with a number: it is asked for where it has a key, else its body runs by itself
 abbrev pub block_run : Stage → ℕ → ℕ → Keyed → Variables → (Rest → Rest) → Rest → Rest
 block_run stage template block key vars body rest looks out =
-    Reads (looks + key.looks) (asked stage.tree template block key vars) (λ found. found_or found body (fresh stage.tree stage.moment template block key vars) rest 0 out)
+    if key.is_key then asked_run stage template block key vars body rest looks out else after_looks key.looks (body rest) looks out
 
 -- ---- collections
 
@@ -121,22 +128,41 @@ abbrev pub item_run : Stage → ℕ → List ℕ → ValueType → Val × Option
 item_run stage partial name t one =
     found_or one.1 (stage.runs partial ((name, t) ∷ []) (only name one.0)) (fresh stage.tree stage.moment partial item_number (item_keyed stage partial name t one.0) (only name one.0))
 
+-- an item that isn't asked for
+abbrev pub item_plain : Stage → ℕ → List ℕ → ValueType → Val → Rest → Rest
+item_plain stage partial name t item = stage.runs partial ((name, t) ∷ []) (only name item)
+
 -- so many answers as there are questions: what is lacking wasn't found
 abbrev pub answers_to : {X : Type 0} → List X → List (Option (List ℕ)) → List (X × Option (List ℕ))
 answers_to [] found = []
 answers_to (x ∷ xs) [] = (x, None) ∷ answers_to xs []
 answers_to (x ∷ xs) (one ∷ found) = (x, one) ∷ answers_to xs found
 
--- the items of a cached collection: all are asked for at once, where there are any, and then what was found stands in the place of each
+-- the looks that making the keys of items may take
+abbrev pub items_looks : Stage → ℕ → List ℕ → ValueType → List Val → ℕ
+items_looks stage partial name t items = sum_by (λ one. (item_keyed stage partial name t one).looks) items
+
+-- whether each item has a key
+abbrev pub have_keys : Stage → ℕ → List ℕ → ValueType → List Val → Bool
+have_keys stage partial name t items = list_all (λ one. (item_keyed stage partial name t one).is_key) items
+
+-- all items are asked for at once, and then what was found stands in the place of each
+abbrev pub asked_items : Stage → ℕ → List ℕ → ValueType → List Val → Rest → Rest
+asked_items stage partial name t items rest looks out =
+    ReadsMany (looks + items_looks stage partial name t items) (map (item_asked stage partial name t) items)
+    (λ found. for_each (item_run stage partial name t) (answers_to items found) rest 0 out)
+
+-- the items of a cached collection, where there are any: they are asked for where each has a key, else each runs by itself
 abbrev pub items_run : Stage → ℕ → List ℕ → ValueType → List Val → Rest → Rest
 items_run stage partial name t [] rest looks out = rest looks out
 items_run stage partial name t (item ∷ items) rest looks out =
-    ReadsMany (looks + sum_by (λ one. (item_keyed stage partial name t one).looks) (item ∷ items)) (map (item_asked stage partial name t) (item ∷ items))
-    (λ found. for_each (item_run stage partial name t) (answers_to (item ∷ items) found) rest 0 out)
+    if have_keys stage partial name t (item ∷ items)
+    then asked_items stage partial name t (item ∷ items) rest looks out
+    else after_looks (items_looks stage partial name t (item ∷ items)) (for_each (item_plain stage partial name t) (item ∷ items) rest) looks out
 
 abbrev pub collection_run : Stage → Bool → ℕ → List ℕ → ValueType → List Val → Rest → Rest
 collection_run stage cached partial name t items =
-    if cached then items_run stage partial name t items else for_each (λ item. stage.runs partial ((name, t) ∷ []) (only name item)) items
+    if cached then items_run stage partial name t items else for_each (item_plain stage partial name t) items
 
 -- ---- nodes
 

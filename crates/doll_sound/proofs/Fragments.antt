@@ -42,7 +42,8 @@ use Rattle.doll_past.proofs.Along.{tables_are_along}
 use Rattle.doll_set.specs.Dependencies.{names_of}
 use Rattle.doll_key.specs.declared.parts.KeyParts.{KeyParts}
 use Rattle.doll_key.proofs.Uniqueness.{one_key}
-use Rattle.doll_sound.specs.Keys.{key_of, part_component}
+use Rattle.doll_run.specs.Keys.{part_component}
+use Rattle.doll_sound.specs.Keys.{key_of}
 use Rattle.doll_sound.proofs.Keys.{one_place}
 use Rattle.doll_sound.specs.Fragments.{SameBytes, fragment}
 use Rattle.doll_sound.specs.Sites.{IsSite}

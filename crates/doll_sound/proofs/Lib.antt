@@ -7,3 +7,7 @@ pub mod Fragments
 pub mod Entries
 pub mod Read
 pub mod ReadSets
+pub mod Types
+pub mod Having
+pub mod Named
+pub mod Hashes

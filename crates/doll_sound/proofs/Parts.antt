@@ -33,7 +33,7 @@ use Rattle.doll_agree.specs.Bodies.{AreOfOneHistory}
 use Rattle.doll_agree.specs.Keys.{HasSameRow, KeysAgree, PartAgrees}
 use Rattle.doll_agree.specs.Standing.{IsKeyPart}
 use Rattle.doll_agree.proofs.Lists.{of_each}
-use Rattle.doll_sound.specs.Keys.{component_by, id_of, part_component, part_versions, plural_of, single_of, version_of, versions_by}
+use Rattle.doll_run.specs.Keys.{component_by, id_of, part_component, part_versions, plural_of, single_of, version_of, versions_by}
 use Rattle.doll_sound.specs.Sites.{HasDistinctPlurals}
 
 -- ---- sorts of parts

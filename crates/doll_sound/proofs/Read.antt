@@ -15,10 +15,11 @@ use Rattle.doll_schema.specs.declared.fault.SchemaFault.TheVariants.{BadForm, Du
 use Rattle.doll_schema.specs.declared.fault.Part.TheVariants as parts
 use Rattle.doll_schema.specs.declared.limits.TheConstants.{MOST_MODELS}
 use Rattle.doll_schema.specs.declared.model.Model.{Model}
+use Rattle.doll_schema.specs.declared.model.Schema.{Schema}
 use Rattle.doll_schema.specs.Drafts.{attributes_of, drafts_of, has_model_keys, is_model, is_plural, model_draft, model_items, model_with, models_from, name_at, own_name, parents_of, manys_of, place}
 use Rattle.doll_schema.specs.Json.{text_at}
-use Rattle.doll_schema.specs.Schemas.{belongs_to_from, has_many_from, linked_from, linked_model}
-use Rattle.doll_sound.specs.Sites.{SchemasHavePlurals}
+use Rattle.doll_schema.specs.Schemas.{belongs_to_from, has_many_from, linked_from, linked_model, schema_of}
+use Rattle.doll_sound.specs.Sites.{HasDistinctPlurals, SchemasHavePlurals}
 
 -- ---- steps
 
@@ -151,7 +152,7 @@ linked_plural models n draft model e =
     let manys = bound (has_many_from models n draft.name [] draft.has_many) _ model parents.2 in
     cc manys.2
 
-linked_plurals : (all : List ModelDraft) (earlier : List Model) (drafts : List ModelDraft) (models : List Model) → linked_from all earlier drafts ≡ Ok models → model_plurals models ≡ model_plurals earlier ++ plurals drafts
+pub linked_plurals : (all : List ModelDraft) (earlier : List Model) (drafts : List ModelDraft) (models : List Model) → linked_from all earlier drafts ≡ Ok models → model_plurals models ≡ model_plurals earlier ++ plurals drafts
 linked_plurals all earlier [] models e = let same : earlier ≡ models = cc e in ap model_plurals (sym same) ∙ sym (append-nil (model_plurals earlier))
 linked_plurals all earlier (draft ∷ drafts) models e =
     let one = bound (linked_model all (length earlier) draft) _ models e in
@@ -170,8 +171,10 @@ all_there P [] m x all e = absurd (cc e)
 all_there P (y ∷ xs) zero x all e = let same : y ≡ x = cc in subst P same all.0
 all_there P (y ∷ xs) (suc m) x all e = all_there P xs m x all.1 e
 
-pub schemas_have_plurals : SchemasHavePlurals
-schemas_have_plurals json schema e =
+-- a plural names one model, and is a name
+pub plurals_are : (json : Data) (schema : Schema) → schema_of json ≡ Ok schema
+    → HasDistinctPlurals schema × ((m : ℕ) (one : Model) → slice_get schema.models m ≡ Some one → is_name one.plural ≡ true)
+plurals_are json schema e =
     let drafts = bound (drafts_of json) _ schema e in
     let models = bound (linked_from drafts.0 [] drafts.0) _ schema drafts.2 in
     let is : models.0 ≡ schema.models = cc models.2 in
@@ -183,3 +186,6 @@ schemas_have_plurals json schema e =
           (subst (λ ps. slice_get ps n ≡ Some one.plural) same (plural_there schema.models n other at_n ∙ ap Some (sym plural))),
       λ m one at. all_there (λ name. is_name name ≡ true) (plurals drafts.0) m one.plural are.names (subst (λ ps. slice_get ps m ≡ Some one.plural) same (plural_there schema.models m one at)),
     )
+
+pub schemas_have_plurals : SchemasHavePlurals
+schemas_have_plurals json schema e = (plurals_are json schema e).0

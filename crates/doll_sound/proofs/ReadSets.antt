@@ -19,8 +19,8 @@ use Rattle.doll_set.specs.Digests.{digest_of, digests_of, name_at, registered}
 use Rattle.doll_set.specs.Files.{in_order, is_taken, or_bad_template, put_template, template_of, templates_from, virtual_path}
 use Rattle.doll_set.specs.Order.{isnt_above}
 use Rattle.doll_set.specs.Sets.{ReadSet, linked_graph, or_refused, set_of, templates_of}
-use Rattle.doll_sound.specs.Keys.{digest_at}
-use Rattle.doll_sound.specs.Sites.{SetsHavePaths}
+use Rattle.doll_run.specs.Keys.{digest_at}
+use Rattle.doll_sound.specs.Names.{SetsHavePaths}
 use Rattle.doll_sound.proofs.Read.{bound, passed, there}
 
 -- ---- paths

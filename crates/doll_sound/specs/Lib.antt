@@ -1,4 +1,5 @@
 pub mod Keys
 pub mod Sites
+pub mod Names
 pub mod Fragments
 pub mod Entries

@@ -4,7 +4,8 @@
 ghost use Rattle.doll_sound.specs.Entries.{ShownIsSound, SoundIsShown, SoundStays};
 ghost use Rattle.doll_sound.specs.Fragments.{SameBytes};
 ghost use Rattle.doll_sound.specs.Keys.{KeysTellTemplates};
-ghost use Rattle.doll_sound.specs.Sites.{SchemasHavePlurals, SetsHavePaths};
+ghost use Rattle.doll_sound.specs.Names.{KeysAreKeys, Md5GivesDigests, SchemasHaveNames, SetsHavePaths, WhatWasReadHasNames};
+ghost use Rattle.doll_sound.specs.Sites.{SchemasHavePlurals};
 
 /// Keys with equal texts, of whichever sets, name one path and one digest.
 pub fn keys_tell_templates()
@@ -32,7 +33,7 @@ pub fn sound_is_shown()
     ensures { SoundIsShown }
 {}
 
-/// In a schema that was read a plural names one model, and is a name.
+/// In a schema that was read a plural names one model.
 pub fn schemas_have_plurals()
     ensures { SchemasHavePlurals }
 {}
@@ -40,4 +41,24 @@ pub fn schemas_have_plurals()
 /// In a set that was read each template has a virtual path and a digest.
 pub fn sets_have_paths()
     ensures { SetsHavePaths }
+{}
+
+/// In a schema that was read each model's plural is a name, and associations lead to models.
+pub fn schemas_have_names()
+    ensures { SchemasHaveNames }
+{}
+
+/// MD5 gives digests, so that a set that is read by it has them.
+pub fn md5_gives_digests()
+    ensures { Md5GivesDigests }
+{}
+
+/// A set and a schema that were read have what keys are made of.
+pub fn what_was_read_has_names()
+    ensures { WhatWasReadHasNames }
+{}
+
+/// In a set with names, what a renderer takes for the key of a block that a page reaches is its key.
+pub fn keys_are_keys()
+    ensures { KeysAreKeys }
 {}

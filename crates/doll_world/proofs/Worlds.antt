@@ -25,7 +25,7 @@ history_of {checked} {K} {records} world = subst (λ s. IsHistory s records.hist
 module _ (checked : TypedSet) {K : Type 0} (records : Recorded K) (old new : Option (List Entry)) (world : IsWorld checked records old) where
   -- other entries that are sound
   with_entries : IfSome new (AreSoundFor checked records.history) → IsWorld checked records new
-  with_entries sound = record { site = world.site; schema = world.schema; history = world.history; sound = sound }
+  with_entries sound = record { site = world.site; names = world.names; schema = world.schema; history = world.history; sound = sound }
 
   pub after_read : (ask : Ask) (now ttl : ℕ) (found : Fetched) → WhereTold (λ o n. Fetches (fetched ask.key ask.versions now ttl o) found o n) old new → IsWorld checked records new
   after_read ask now ttl found told =
@@ -117,6 +117,7 @@ pub after_commit : {T E : Type 0} (checked : TypedSet) {K : Type 0} (old new : R
     → OnOk result (new.history ≡ old.history ++ more) → OnErr result (new.history ≡ old.history) → IsWorld checked new entries
 after_commit {T} {E} checked old new more result entries world schema is ok err = record {
   site = world.site;
+  names = world.names;
   schema = schema ∙ world.schema;
   history = is;
   sound = by result ok err;

@@ -14,6 +14,7 @@ use Rattle.doll_entry.specs.declared.entry.Entry.{Entry}
 use Rattle.doll_entry.specs.declared.entry.Fresh.{Fresh}
 use Rattle.doll_sound.specs.Entries.{IsSound}
 use Rattle.doll_sound.specs.Fragments.{AsksFor, fragment}
+use Rattle.doll_sound.specs.Names.{HasNames}
 use Rattle.doll_sound.specs.Sites.{IsSite}
 
 -- ---- what is kept
@@ -32,10 +33,11 @@ pub record WorldParts (K H : Type 0) : Type 0 where
   pub shelf : H
   pub checked : TypedSet
 
--- What is true of every world: its fragments may be kept, its records are a history of the set's models, and each entry is sound for this
--- history, where the shelf tells its entries.
+-- What is true of every world: its fragments may be kept, its set and its models have what keys are made of, its records are a history of the set's models, and
+-- each entry is sound for this history, where the shelf tells its entries.
 pub record IsWorld (checked : TypedSet) {K : Type 0} (records : Recorded K) (entries : Option (List Entry)) : Type 0 where
   pub site : IsSite checked.set checked.schema checked.routes
+  pub names : HasNames checked.set checked.schema
   pub schema : records.schema ≡ checked.schema
   pub history : IsHistory records.schema records.history
   pub sound : IfSome entries (AreSoundFor checked records.history)

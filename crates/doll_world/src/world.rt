@@ -15,6 +15,7 @@ ghost use Rattle.doll_shelf.specs.Batches as batch;
 ghost use Rattle.doll_shelf.specs.Calls.{BatchAtMost, WhereTold};
 ghost use Rattle.doll_shelf.specs.Fetches as fetches;
 ghost use Rattle.doll_shelf.specs.declared.shelf.ShelfFault.TheVariants.{Failed};
+ghost use Rattle.doll_sound.specs.Names.{HasNames};
 ghost use Rattle.doll_sound.specs.Sites.{HasDistinctPlurals};
 ghost use Rattle.doll_world.specs.Worlds.{AreSoundFor, HitIsShown, HitsAreShown, IsSoundFor, IsWorld, WhereTheyAreTold};
 
@@ -57,6 +58,7 @@ impl<K: Keeper, H: Shelf> World<K, H> {
     pub fn open(records: Records<K>, shelf: H, checked: Shared<Checked>) -> World<K, H>
         requires schema { records.schema ≡ checked.schema }
         requires plurals { HasDistinctPlurals checked.schema }
+        requires names { HasNames checked.set checked.schema }
         requires sound { IfSome (H.entries shelf) (AreSoundFor checked records.history) }
         ensures records { result.records ≡ records }
         ensures shelf { result.shelf ≡ shelf }

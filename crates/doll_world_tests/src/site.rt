@@ -1,7 +1,8 @@
 //! A small site, read, typed and linted, and a history of its records.
 
-ghost use Rattle.std.specs.Prelude.{◌≡◌, IfSome};
+ghost use Rattle.std.specs.Prelude.{◌≡◌, IfOk, IfSome};
 ghost use Rattle.doll_journal.specs.Storable.{AreStorable};
+ghost use Rattle.doll_sound.specs.Names.{AreNamed, HasNames, HasPaths};
 ghost use Rattle.doll_sound.specs.Sites.{HasDistinctPlurals};
 
 use doll_base::ViewFile;
@@ -13,7 +14,7 @@ use doll_records::Records;
 use doll_route::Routes;
 use doll_schema::Schema;
 use doll_set::{SetFault, TemplateSet};
-use doll_sound::schemas_have_plurals;
+use doll_sound::{md5_gives_digests, schemas_have_names, schemas_have_plurals, sets_have_paths};
 use doll_text::{Copied, Memory, Name, Text};
 use doll_types::type_set;
 use serde_json::Value;
@@ -40,9 +41,11 @@ fn json(alloc: Global, text: &str) -> Option<Value> {
 
 /// A schema that was read.
 fn schema_in(alloc: Global, json: &Value) -> Option<Schema>
-    ensures { IfSome result HasDistinctPlurals }
+    ensures plurals { IfSome result HasDistinctPlurals }
+    ensures names { IfSome result AreNamed }
 {
     schemas_have_plurals();
+    schemas_have_names();
     match Schema::read(alloc, json) {
         Ok(schema) => Some(schema),
         Err(_) => None,
@@ -51,7 +54,8 @@ fn schema_in(alloc: Global, json: &Value) -> Option<Schema>
 
 /// The site's schema.
 pub fn schema(alloc: Global) -> Option<Schema>
-    ensures { IfSome result HasDistinctPlurals }
+    ensures plurals { IfSome result HasDistinctPlurals }
+    ensures names { IfSome result AreNamed }
 {
     match json(alloc, MODELS) {
         Some(json) => schema_in(alloc, &json),
@@ -77,17 +81,29 @@ fn file(alloc: Global, name: &str, source: &str) -> Result<ViewFile, Memory> {
     })
 }
 
-fn set(alloc: Global) -> Result<TemplateSet, SetFault> {
+fn set(alloc: Global) -> Result<TemplateSet, SetFault>
+    ensures { IfOk result HasPaths }
+{
     let (name, source) = PAGE;
     let mut files = Vec::new(alloc);
     files.push(file(alloc, name, source)?)?;
+    set_of(alloc, files.as_slice())
+}
+
+/// The set that files make.
+fn set_of(alloc: Global, files: &[ViewFile]) -> Result<TemplateSet, SetFault>
+    ensures { IfOk result HasPaths }
+{
+    sets_have_paths();
+    md5_gives_digests();
     let mut registry = Registry::new(alloc, Md5Hash);
-    TemplateSet::read(alloc, files.as_slice(), &mut registry)
+    TemplateSet::read(alloc, files, &mut registry)
 }
 
 /// The site's set, checked under a schema.
 fn checked_by(alloc: Global, set: TemplateSet, schema: Schema, routes: &Routes) -> Option<Checked>
-    ensures { IfSome result (λ checked. checked.schema ≡ schema) }
+    ensures schema { IfSome result (λ checked. checked.schema ≡ schema) }
+    ensures set { IfSome result (λ checked. checked.set ≡ set) }
 {
     match type_set(alloc, set, schema, routes) {
         Ok(typed) => lint(alloc, typed).ok(),
@@ -97,7 +113,9 @@ fn checked_by(alloc: Global, set: TemplateSet, schema: Schema, routes: &Routes) 
 
 /// The same of the site.
 pub fn checked(alloc: Global, schema: Schema) -> Option<Checked>
-    ensures { IfSome result (λ checked. checked.schema ≡ schema) }
+    requires { AreNamed schema }
+    ensures schema { IfSome result (λ checked. checked.schema ≡ schema) }
+    ensures names { IfSome result (λ checked. HasNames checked.set checked.schema) }
 {
     let routes = routes(alloc, &schema)?;
     match set(alloc) {

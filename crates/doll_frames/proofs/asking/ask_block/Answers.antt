@@ -12,6 +12,7 @@ returns-clause-goes g c = λ body.
     c.in_ok-key.key c.in_ok-ask.ask c.push.new.self (g.R.Rows.looks c.args.rows.now) (g.R.Rows.looks c.block_key.new.rows)
     (search rules)
     (search rules)
+    (search rules)
     (c.in_ok-ask.ensures ∙ ap (ask_for c.in_ok-key.key c.args.scope.now.vars) c.block_id-block.ensures)
     (c.in_ok-push.ensures.frames ∙ ap (λ fs. frame.Asked c.in_ok-key.key ∷ fs) c.requires.begins)
     (search rules)

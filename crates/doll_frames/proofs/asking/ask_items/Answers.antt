@@ -9,6 +9,7 @@ returns-clause-goes g c = λ name list cached typing vars.
     items_asked c.args.context.now (g.R.Rows.table c.args.rows.now) c.args.context.now.levels c.args.context.now.number c.args.partial c.args.item.now c.args.walk.of c.args.walk.model
     name list cached typing vars c.args.walk.ids c.in_ok-made.made.items c.in_ok-made.made.asks c.push.new.self (g.R.Rows.looks c.args.rows.now) (g.R.Rows.looks c.item_asks.new.rows)
     (search rules)
+    c.in_ok-made.ensures.keys
     c.in_ok-made.ensures.items
     c.in_ok-made.ensures.asks
     (c.in_ok-push.ensures.frames

@@ -1,6 +1,6 @@
-use Rattle.std.proofs.Common.{◌≡◌, ◌+◌, ◌≤◌, map, sum_by, take}
-use Rattle.std.specs.List.{flat_map}
-use Rattle.doll_frames.specs.Keys as spec
+use Rattle.std.proofs.Common.{◌≡◌, ◌+◌, ◌≤◌, true, map, sum_by, take}
+use Rattle.std.specs.List.{flat_map, list_all}
+use Rattle.doll_run.specs.Keys as spec
 use Rattle.doll_frames.proofs.keys.block_key.Given as goal
 
 -- the parts so far, with their versions, at the looks that they may take
@@ -10,4 +10,5 @@ invariant-loop-part g l = record {
   components : l.components ≡ map (spec.part_component l.schema (g.R.Rows.table l.fn.rows) l.typing l.vars) (take l.part-index l.key);
   versions : l.versions ≡ flat_map (spec.part_versions l.schema (g.R.Rows.table l.fn.rows) l.typing l.vars) (take l.part-index l.key);
   looks : g.R.Rows.looks l.rows ≤ g.R.Rows.looks l.fn.rows + sum_by (spec.part_looks l.schema (g.R.Rows.table l.fn.rows) l.typing l.vars) (take l.part-index l.key);
+  bounded : list_all spec.is_bounded l.components ≡ true;
 }

@@ -1,7 +1,8 @@
 -- The key of a cached block over a table, by its parts (versions beside a key's text are after the recyclable keys of Active Support; the rest is this
 -- project's own).
-use Rattle.std.specs.Prelude.{ℕ, ◌+◌, List, [], ◌∷◌, map, slice_get, sum_by, Option, None, Some, Result, Ok}
-use Rattle.std.specs.List.{flat_map}
+use Rattle.std.specs.Prelude.{ℕ, ◌+◌, ◌^◌, nat_lt, Bool, true, List, [], ◌∷◌, map, slice_get, sum_by, Option, None, Some, Result, Ok}
+use Rattle.std.specs.Int.Signed.{mag}
+use Rattle.std.specs.List.{flat_map, list_all, slice_index_or}
 use Rattle.std.specs.Option.{option_map_or}
 use Rattle.doll_schema.specs.declared.model.Model.{Model}
 use Rattle.doll_schema.specs.declared.value.Row.{Row}
@@ -14,6 +15,7 @@ use Rattle.doll_erb.specs.declared.node.KeyPart.{KeyPart}
 use Rattle.doll_erb.specs.declared.node.KeyPart.TheVariants as part
 use Rattle.doll_table.specs.Tables.{TableMap, row_of}
 use Rattle.doll_eval.specs.Values.{looks_of, value_of}
+use Rattle.doll_set.specs.Digests.{name_at}
 use Rattle.doll_set.specs.Sets.{ReadSet}
 use Rattle.doll_set.specs.declared.template.Template.{Template}
 use Rattle.doll_plain.specs.Direct.{Variables}
@@ -23,6 +25,7 @@ use Rattle.doll_types.specs.declared.types.ValueType.TheVariants as type
 use Rattle.doll_types.specs.Types.{Typing, type_of}
 use Rattle.doll_key.specs.declared.components.Component.{Component}
 use Rattle.doll_key.specs.declared.components.Component.TheVariants as component
+use Rattle.doll_key.specs.declared.parts.KeyParts.{KeyParts}
 use Rattle.doll_key.specs.Keys.{key_text}
 use Rattle.doll_run.specs.Rendering.{Keyed}
 
@@ -81,7 +84,51 @@ part_looks schema table typing vars (part.Path expr) =
     looks_of expr vars schema table + looks_by (type_of schema typing expr) (value_of expr vars schema table)
 part_looks schema table typing vars (part.Literal text) = 0
 
+-- ---- bounds
+
+-- whether an id has 32 bits
+abbrev pub is_id : Option ℕ → Bool
+is_id (Some id) = nat_lt id (2 ^ 32)
+is_id None = true
+
+-- whether a text is made of bytes
+unfoldable pub are_bytes : List ℕ → Bool
+are_bytes text = list_all (λ b. nat_lt b 256) text
+
+-- whether a number has 64 bits, or a text is made of bytes
+abbrev pub is_value : Value → Bool
+is_value value.Nil = true
+is_value (value.Bool truth) = true
+is_value (value.Int number) = nat_lt (mag number) (2 ^ 63)
+is_value (value.Text text) = are_bytes text
+
+-- whether what a part of a key has is as large at most as a key may have it
+abbrev pub is_bounded : Component → Bool
+is_bounded (component.Record plural id) = is_id id
+is_bounded (component.Literal text) = are_bytes text
+is_bounded (component.Scalar v) = is_value v
+
 -- ---- keys
+
+-- the digest of the template with a number, nothing where there is none
+abbrev pub digest_at : ReadSet → ℕ → List ℕ
+digest_at set number = slice_index_or set.digests number []
+
+-- what the key of a block of the template with a number is made of: the path and the digest of the template, and the parts that its tag names, in their order
+abbrev pub parts_at : ReadSet → ModelList → TableMap → ℕ → Typing → List KeyPart → Variables → KeyParts
+parts_at set schema table number typing key vars = record {
+  path = name_at set.templates number;
+  digest = digest_at set number;
+  components = map (part_component schema table typing vars) key;
+}
+
+-- the versions of the records of a key, in their order
+abbrev pub versions_at : ModelList → TableMap → Typing → List KeyPart → Variables → List ℕ
+versions_at schema table typing key vars = flat_map (part_versions schema table typing vars) key
+
+-- the looks that making a key may take
+abbrev pub looks_at : ModelList → TableMap → Typing → List KeyPart → Variables → ℕ
+looks_at schema table typing key vars = sum_by (part_looks schema table typing vars) key
 
 -- the text of a key of the template with a number: its path and its digest, then the parts; nothing where there is no such template
 abbrev pub text_at : ReadSet → ℕ → List Component → List ℕ
@@ -90,10 +137,12 @@ text_at set number components =
     (λ digest. option_map_or (λ (template : Template). key_text (record { path = template.name; digest = digest; components = components })) (slice_get set.templates number) [])
     (slice_get set.digests number) []
 
--- the key of a block of a template over a table, by its parts, where variables have these types and these values
+-- The key of a block of a template over a table, by its parts, where variables have these types and these values. It is one where no part is larger than a
+-- key may have it: a whole number has 64 bits, for example. Which paths, digests and plurals there are is the site's concern.
 unfoldable pub keyed_over : ReadSet → ModelList → TableMap → ℕ → Typing → List KeyPart → Variables → Keyed
 keyed_over set schema table number typing key vars = record {
   text = text_at set number (map (part_component schema table typing vars) key);
-  versions = flat_map (part_versions schema table typing vars) key;
-  looks = sum_by (part_looks schema table typing vars) key;
+  versions = versions_at schema table typing key vars;
+  looks = looks_at schema table typing key vars;
+  is_key = list_all is_bounded (map (part_component schema table typing vars) key);
 }
