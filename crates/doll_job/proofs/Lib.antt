@@ -1,0 +1,4 @@
+mod Begun
+mod Facts
+mod Jobs
+mod Leads
