@@ -1,0 +1,7 @@
+mod Answering
+mod Beginning
+mod Carrying
+mod Committing
+mod Ending
+mod Fetching
+mod Keeping

@@ -1,0 +1,9 @@
+pub mod Beginnings
+pub mod Cores
+pub mod Losses
+pub mod Openings
+pub mod Pages
+pub mod States
+pub mod Steps
+pub mod Turning
+pub mod Turns
