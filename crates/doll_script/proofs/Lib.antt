@@ -1,3 +1,4 @@
 pub mod Digits
 pub mod Jsons
 pub mod Made
+pub mod Texts
