@@ -1,3 +1,4 @@
 pub mod ClockReadings
 pub mod Keeping
 pub mod Made
+pub mod Served

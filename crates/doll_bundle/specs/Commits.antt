@@ -9,19 +9,17 @@ use Rattle.doll_schema.specs.declared.model.Schema.{Schema}
 use Rattle.doll_journal.specs.declared.change.Change.{Change}
 use Rattle.doll_journal.specs.declared.change.Commit.{Commit}
 use Rattle.doll_journal.specs.Forms.{changes_in}
-use Rattle.doll_table.specs.Tables.{TableMap}
 use Rattle.doll_commit.specs.declared.fault.Why.{Why}
 use Rattle.doll_commit.specs.declared.fault.Why.TheVariants as why
 use Rattle.doll_records.specs.declared.fault.RecordFault.{RecordFault}
 use Rattle.doll_records.specs.declared.fault.RecordFault.TheVariants as fault
 use Rattle.doll_records.specs.Commitments.{asked, committed}
-use Rattle.doll_records.specs.Histories.{table_of}
 use Rattle.doll_bundle.specs.declared.commits.Asked.{Asked}
 use Rattle.doll_views.specs.Bundles.{commit_refusal}
 use Rattle.doll_views.specs.declared.refusal.Kind.{Kind}
 use Rattle.doll_views.specs.declared.refusal.Kind.TheVariants as kind
 use Rattle.doll_views.specs.declared.refusal.Refusal.{Refusal}
-use Rattle.doll_views.specs.declared.refusal.Refusal.TheVariants.{NotBuilt}
+use Rattle.doll_views.specs.declared.refusal.Refusal.TheVariants.{Memory}
 
 -- ---- what a commit of a bundle asks for
 
@@ -75,8 +73,8 @@ fault_refusal number (fault.HistoryFull count) = commit_refusal number kind.Hist
 fault_refusal number (fault.MomentsEnded last) = commit_refusal number kind.MomentsEnded
 fault_refusal number (fault.Refused index what) = commit_refusal number (why_kind what)
 -- these two never come: no definition answers a keeper's fault or want of memory
-fault_refusal number fault.Kept = NotBuilt
-fault_refusal number fault.Memory = NotBuilt
+fault_refusal number fault.Kept = Memory
+fault_refusal number fault.Memory = Memory
 
 abbrev pub or_refusal : {A : Type 0} → ℕ → Result A RecordFault → Result A Refusal
 or_refusal number (Ok x) = Ok x
@@ -119,12 +117,6 @@ commits_from schema history readings no_items = Ok history
 commits_from schema history readings (item commit commits) = do
   next ← commit_result schema history (next_reading readings) commit
   commits_from schema next (readings_behind commit readings) commits
-
--- the records that a bundle's commits leave
-abbrev pub all_recorded : Schema → List ℕ → Items → Result TableMap Refusal
-all_recorded schema readings commits = do
-  history ← commits_from schema [] readings commits
-  Ok (table_of schema history)
 
 -- The history is the one that is expected, or the answer is the refusal, unless memory ran out.
 abbrev pub GivesHistory : {A F : Type 0} → F → Result A F → A → Result (Unit {0}) F → Type 0

@@ -2,17 +2,18 @@
 
 ghost use Rattle.std.specs.Prelude.{◌≡◌, [], length, IfOk, IfSome};
 ghost use Rattle.serde_json.specs.View.{items_view, view};
-ghost use Rattle.doll_text.specs.Gives.{Gives};
+ghost use Rattle.doll_text.specs.Gives.{GivesBy};
 ghost use Rattle.doll_keep.specs.Calls.{IsFaultless};
-ghost use Rattle.doll_table.specs.Fits.{Fits};
-ghost use Rattle.doll_bundle.specs.Commits.{is_untimed, time_in, asked_in, untimed, why_kind, recorded, commit_result, next_reading, readings_behind, commits_from, all_recorded};
+ghost use Rattle.doll_keep.specs.Kept.{MemKept};
+ghost use Rattle.doll_records.specs.Histories.{Recorded};
+ghost use Rattle.doll_bundle.specs.Commits.{is_untimed, time_in, asked_in, untimed, why_kind, recorded, commit_result, next_reading, readings_behind, commits_from};
 ghost use Rattle.doll_journal.specs.Storable.{AreStorable};
 ghost use Rattle.doll_bundle.specs.Commits.{GivesHistory};
 
 use doll_commit::Why;
 use doll_journal::{Changes, changes_of};
 use doll_keep::MemKeeper;
-use doll_records::{OpenFault, RecordFault, Records, SharedTable};
+use doll_records::{OpenFault, RecordFault, Records};
 use doll_schema::Schema;
 use doll_schema::json::{has_only, whole_at};
 use doll_text::{Copied, Memory};
@@ -190,6 +191,7 @@ fn record_all(
         (commits_from records.old.schema records.old.history readings.now (items_view commits.now))
         records.new.history result }
     ensures schema { records.new.schema ≡ records.old.schema }
+    ensures faultless { IsFaultless records.new.keeper.plan }
 {
     let mut rest = commits;
     let mut left = readings;
@@ -218,19 +220,19 @@ fn no_records(alloc: Global, schema: &Schema) -> Result<Records<MemKeeper>, Memo
     }
 }
 
-/// The records that these commits leave, made one after another.
-pub fn table_after(
+/// The history of these commits, made one after another, behind a keeper that fails at no call.
+pub fn records_after(
     alloc: Global,
     schema: &Schema,
     readings: &[u64],
     commits: &[Value],
-) -> Result<SharedTable, Refusal>
-    ensures exact { Gives Refusal.Memory
-        (all_recorded schema.now readings.now (items_view commits.now)) result }
-    ensures fits { IfOk result (λ table. Fits schema.now table) }
+) -> Result<Records<MemKeeper>, Refusal>
+    ensures exact { GivesBy (λ (records : Recorded MemKept). records.history) Refusal.Memory
+        (commits_from schema.now [] readings.now (items_view commits.now)) result }
+    ensures schema { IfOk result (λ records. records.schema ≡ schema.now) }
+    ensures faultless { IfOk result (λ records. IsFaultless records.keeper.plan) }
 {
     let mut records = no_records(alloc, schema)?;
     record_all(alloc, &mut records, readings, commits)?;
-    let snapshot = records.snapshot(alloc)?;
-    Ok(snapshot.table)
+    Ok(records)
 }

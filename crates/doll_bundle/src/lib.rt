@@ -6,6 +6,7 @@
 
 pub mod commits;
 mod readings;
+mod script;
 pub mod site;
 
 pub use commits::untimed;

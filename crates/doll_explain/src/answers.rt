@@ -2,7 +2,7 @@
 
 ghost use Rattle.std.specs.Prelude.{◌≤◌, length, string_bytes, IfOk};
 ghost use Rattle.std.specs.Str.{IsUtf8};
-ghost use Rattle.doll_route.specs.Routes.{AreRoutesOf};
+ghost use Rattle.doll_views.specs.Bundles.{WasRead};
 ghost use Rattle.doll_excerpt.specs.Texts.{EndsLine};
 
 use crate::commits::put_commit;
@@ -11,10 +11,10 @@ use crate::paths::{put_path, put_usage};
 use crate::report::{put_named, put_wrong};
 use crate::schema::{put_route, put_said, put_schema};
 use crate::sets::put_set;
+use crate::settings::{put_script, put_settings};
 use crate::types::put_types;
 use crate::words::{
     bundle_words, commit_words, file_words, json_words, listing_words, too_long_words,
-    unbuilt_words,
 };
 use doll_base::{MemFolder, ViewFile};
 use doll_bundle::Site;
@@ -35,7 +35,7 @@ use std::alloc::Global;
 pub enum Answer {
     /// The words are none of the commands.
     WrongWords,
-    /// The bundle is refused, or a part of it isn't read yet.
+    /// The bundle is refused.
     Refused,
     /// The templates have faults of types.
     Untyped,
@@ -124,19 +124,8 @@ fn put_json(
     match Bundle::read(alloc, json) {
         Ok(bundle) => put_bundle(alloc, paper, answer, answered, bundle),
         Err(Refusal::Refused { part, .. }) => put_part(alloc, paper, json, part),
-        Err(Refusal::NotBuilt) => put_unbuilt(paper, json),
         Err(_) => Err(Memory),
     }
-}
-
-/// Appends which part of a bundle isn't read yet.
-fn put_unbuilt(paper: &mut Paper, json: &Value) -> Result<(), Memory> {
-    if json.get("settings").is_some() {
-        paper.put("settings")?;
-    } else {
-        paper.put("script")?;
-    }
-    put_said(paper, None, unbuilt_words())
 }
 
 /// Appends why a part of a bundle is refused before its files are read.
@@ -153,7 +142,11 @@ fn put_part(
             paper.put("views")?;
             put_said(paper, None, listing_words())
         }
-        BundlePart::Json | BundlePart::Commits => {
+        BundlePart::Settings => match json.get("settings") {
+            Some(settings) => put_settings(paper, settings),
+            None => Err(Memory),
+        },
+        BundlePart::Json | BundlePart::Commits | BundlePart::Script => {
             paper.put("standard input")?;
             put_said(paper, None, bundle_words())
         }
@@ -193,7 +186,7 @@ fn put_bundle(
     answered: Answered<'_>,
     bundle: Bundle<'_>,
 ) -> Result<(), Memory>
-    requires { AreRoutesOf bundle.schema bundle.routes }
+    requires { WasRead bundle.schema bundle.routes bundle.settings }
 {
     if answer == Answer::UnknownPath {
         return match answered.path {
@@ -305,7 +298,7 @@ fn put_loaded(
     sources: &[ViewFile],
     loaded: Loaded<'_>,
 ) -> Result<(), Memory>
-    requires { AreRoutesOf loaded.schema loaded.routes }
+    requires { WasRead loaded.schema loaded.routes loaded.settings }
 {
     match answer {
         Answer::Untyped | Answer::Unclean => put_templates(alloc, paper, sources, loaded),
@@ -313,18 +306,25 @@ fn put_loaded(
     }
 }
 
-/// Appends which commit is refused, and why.
+/// Appends which commit is refused, and why, or what isn't of a script's form.
 fn put_commits(
     alloc: Global,
     paper: &mut Paper,
     readings: &[u64],
     loaded: Loaded<'_>,
 ) -> Result<(), Memory>
-    requires { AreRoutesOf loaded.schema loaded.routes }
+    requires { WasRead loaded.schema loaded.routes loaded.settings }
 {
     let commits = loaded.commits;
+    let script = loaded.script;
     let schema = loaded.schema.copy(alloc)?;
     match Site::of(alloc, loaded, readings) {
+        Err(
+            Refusal::Refused {
+                part: BundlePart::Script,
+                ..
+            },
+        ) => put_script(paper, script),
         Err(Refusal::Refused { number, kind, .. }) => put_commit(
             alloc,
             paper,

@@ -4,7 +4,7 @@ ghost use Rattle.doll_table.specs.Fits.{Fits};
 
 use crate::schema::{put_index, put_said};
 use crate::words::{Words, commit_words, why_words};
-use doll_bundle::commits::table_after;
+use doll_bundle::commits::records_after;
 use doll_commit::CommitFault;
 use doll_commit::apply::apply;
 use doll_excerpt::{Paper, put_quoted};
@@ -36,10 +36,11 @@ pub(crate) fn put_commit(
     let Some(changes) = changes_in(alloc, commit)? else {
         return put_said(paper, None, commit_words(Kind::BadForm));
     };
-    match table_after(alloc, schema, readings, before) {
-        Ok(table) => put_changes(alloc, paper, schema, table.get(), changes, kind),
-        Err(_) => Err(Memory),
-    }
+    let Ok(records) = records_after(alloc, schema, readings, before) else {
+        return Err(Memory);
+    };
+    let snapshot = records.snapshot(alloc)?;
+    put_changes(alloc, paper, schema, snapshot.table.get(), changes, kind)
 }
 
 /// The changes of a commit, where they are of the form.

@@ -12,6 +12,7 @@ mod paths;
 mod report;
 mod schema;
 mod sets;
+mod settings;
 mod types;
 mod words;
 

@@ -382,8 +382,8 @@ pub(crate) fn commit_words(kind: Kind) -> Words {
 pub(crate) fn bundle_words() -> Words {
     say(
         "isn't a bundle",
-        "A bundle is a JSON object with the key `schema`, and `routes`, `views`, `files` and `commits` where it has some, and no\n\
-         other key.",
+        "A bundle is a JSON object with the key `schema`, and `routes`, `views`, `files`, `settings`, `commits` and `script` where it\n\
+         has some, and no other key.",
     )
 }
 
@@ -395,9 +395,107 @@ pub(crate) fn json_words() -> Words {
     )
 }
 
-/// A key of a bundle that isn't read yet.
-pub(crate) fn unbuilt_words() -> Words {
-    say("isn't read yet", "Leave this key out.")
+/// Settings that are no object.
+pub(crate) fn settings_words() -> Words {
+    say(
+        "isn't an object",
+        "`settings` is an object such as {\"expires_in\": 60000000, \"max_entries\": 1000}.",
+    )
+}
+
+/// A key that is no setting's.
+pub(crate) fn other_words() -> Words {
+    say(
+        "isn't a setting",
+        "The settings are `expires_in`, `race_condition_ttl`, `max_entries`, `max_size`, `max_age`, `expiry_batch_size`,\n\
+         `shards` and `workers`.",
+    )
+}
+
+/// What may stand under the key of a setting, where it is one's.
+pub(crate) fn setting_words(key: &str) -> Option<Words> {
+    if key == "shards" || key == "workers" {
+        return Some(part_words(key));
+    }
+    if key == "max_entries" || key == "max_size" {
+        return Some(count_words(key));
+    }
+    if key == "expiry_batch_size" {
+        return Some(say(
+            "isn't a whole number from 1 to 10000",
+            "As many entries are removed at once. They are 100 where it isn't said.",
+        ));
+    }
+    time_words(key)
+}
+
+/// A setting that is a time.
+fn time_words(key: &str) -> Option<Words> {
+    if key == "race_condition_ttl" {
+        return Some(say(
+            "isn't a whole number from 0 to 4611686018427387904",
+            "A time in microseconds: for so long, and 0 where it isn't said, an entry that has expired may be renewed.",
+        ));
+    }
+    if key == "expires_in" {
+        return Some(say(
+            "isn't a whole number from 0 to 4611686018427387904, nor null",
+            "A time in microseconds (a minute is 60000000) after which an entry expires. With null, and where it isn't said, none does.",
+        ));
+    }
+    if key == "max_age" {
+        return Some(say(
+            "isn't a whole number from 0 to 4611686018427387904, nor null",
+            "A time in microseconds: the age at which an entry is removed. It is two weeks where it isn't said, and with null none is.",
+        ));
+    }
+    None
+}
+
+/// A setting that limits how much the cache keeps.
+fn count_words(key: &str) -> Words {
+    let wrong = "isn't a whole number from 1 to 18446744073709551615, nor null";
+    if key == "max_size" {
+        return say(
+            wrong,
+            "The most bytes of keys and fragments that are kept. With null, and where it isn't said, there is no limit.",
+        );
+    }
+    say(
+        wrong,
+        "The most entries that are kept. With null, and where it isn't said, there is no limit.",
+    )
+}
+
+/// A setting that shares the work out.
+fn part_words(key: &str) -> Words {
+    let wrong = "isn't a whole number from 1 to 64";
+    if key == "shards" {
+        return say(
+            wrong,
+            "In so many parts is the cache. They are 4 where it isn't said.",
+        );
+    }
+    say(
+        wrong,
+        "So many requests are answered at once. They are 4 where it isn't said.",
+    )
+}
+
+/// A script that is no array.
+pub(crate) fn script_words() -> Words {
+    say(
+        "isn't an array",
+        "`script` is an array of lines, each a text: [\"get /products/1\", \"expire\"].",
+    )
+}
+
+/// A line of a script that is no text.
+pub(crate) fn line_words() -> Words {
+    say(
+        "isn't a text",
+        "A line of a script is a text, such as \"get /products/1\".",
+    )
 }
 
 /// A path that no route has.

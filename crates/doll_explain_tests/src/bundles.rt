@@ -6,15 +6,35 @@ use std::alloc::Global;
 use std::test::Fail;
 
 /// Bundles, with the first lines of their explanations.
-const BUNDLES: [(&str, &str); 13] = [
+const BUNDLES: [(&str, &str); 18] = [
     ("{\n\"schema\":]", "standard input:2:10: this isn't JSON"),
     (
         "{\"schema\":{\"models\":[]},\"veiws\":{}}",
         "standard input: isn't a bundle",
     ),
     (
-        "{\"schema\":{\"models\":[]},\"script\":[]}",
-        "script: isn't read yet",
+        "{\"schema\":{\"models\":[]},\"settings\":[]}",
+        "settings: isn't an object",
+    ),
+    (
+        "{\"schema\":{\"models\":[]},\"settings\":{\"expire\":1}}",
+        "settings: \"expire\" isn't a setting",
+    ),
+    (
+        "{\"schema\":{\"models\":[]},\"settings\":{\"max_age\":null,\"race_condition_ttl\":null}}",
+        "settings.race_condition_ttl: isn't a whole number from 0 to 4611686018427387904",
+    ),
+    (
+        "{\"schema\":{\"models\":[]},\"settings\":{\"shards\":64,\"workers\":65}}",
+        "settings.workers: isn't a whole number from 1 to 64",
+    ),
+    (
+        "{\"schema\":{\"models\":[]},\"script\":{}}",
+        "script: isn't an array",
+    ),
+    (
+        "{\"schema\":{\"models\":[]},\"script\":[\"expire\",7]}",
+        "script[1]: isn't a text",
     ),
     ("{\"schema\":{}}", "schema: isn't of the form"),
     (

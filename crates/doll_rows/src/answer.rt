@@ -39,7 +39,6 @@ fn site_answer(alloc: Global, site: &Site, path: &str) -> Result<Vec<u8>, Memory
 fn refusal_answer(alloc: Global, why: Refusal) -> Result<Vec<u8>, Memory> {
     match why {
         Refusal::Refused { part, number, kind } => refusal_line(alloc, part, number, kind),
-        Refusal::NotBuilt => Ok(Vec::from_slice(alloc, b"not built")?),
         Refusal::TooLong => Ok(Vec::from_slice(alloc, b"too long")?),
         Refusal::Failed => Ok(Vec::from_slice(alloc, b"failed")?),
         Refusal::Memory => Err(Memory),

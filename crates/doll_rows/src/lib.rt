@@ -15,6 +15,8 @@ mod limits;
 #[cfg(test)]
 mod pages;
 #[cfg(test)]
+mod settings;
+#[cfg(test)]
 mod sites;
 #[cfg(test)]
 mod tables;

@@ -15,7 +15,7 @@ use Rattle.doll_views.specs.declared.refusal.BundlePart.TheVariants as part
 use Rattle.doll_views.specs.declared.refusal.Kind.{Kind}
 use Rattle.doll_views.specs.declared.refusal.Kind.TheVariants as kind
 use Rattle.doll_views.specs.declared.refusal.Refusal.{Refusal}
-use Rattle.doll_views.specs.declared.refusal.Refusal.TheVariants.{NotBuilt, Refused}
+use Rattle.doll_views.specs.declared.refusal.Refusal.TheVariants.{Memory, Refused}
 
 -- ---- the schema
 
@@ -31,7 +31,7 @@ schema_refusal (fault.DuplicateName at) = refused_at at kind.DuplicateName
 schema_refusal (fault.UnknownModel at) = refused_at at kind.UnknownModel
 schema_refusal (fault.BadInverse at) = refused_at at kind.BadInverse
 -- this never comes: no definition answers want of memory
-schema_refusal fault.Memory = NotBuilt
+schema_refusal fault.Memory = Memory
 
 abbrev pub or_schema_refusal : Result Schema SchemaFault → Result Schema Refusal
 or_schema_refusal (Ok schema) = Ok schema
@@ -51,7 +51,7 @@ route_refusal (route_fault.UnknownModel at) = routes_refusal at kind.UnknownMode
 route_refusal (route_fault.Duplicate at) = routes_refusal at kind.Duplicate
 route_refusal (route_fault.TooMany at) = routes_refusal at kind.TooMany
 -- this never comes: no definition answers want of memory
-route_refusal route_fault.Memory = NotBuilt
+route_refusal route_fault.Memory = Memory
 
 abbrev pub or_route_refusal : Result (List Route) RouteFault → Result (List Route) Refusal
 or_route_refusal (Ok routes) = Ok routes

@@ -10,8 +10,10 @@ abbrev pub part_name : BundlePart → List ℕ
 part_name part.Json = codes "json"
 part_name part.Schema = codes "schema"
 part_name part.Routes = codes "routes"
+part_name part.Settings = codes "settings"
 part_name part.Views = codes "views"
 part_name part.Commits = codes "commits"
+part_name part.Script = codes "script"
 
 abbrev pub kind_name : Kind → List ℕ
 kind_name kind.BadForm = codes "BadForm"

@@ -15,7 +15,9 @@ seen_parts parts = record {
   routes = option_map (λ d. view d.now) parts.routes;
   views = option_map (λ d. view d.now) parts.views;
   files = option_map (λ d. view d.now) parts.files;
+  settings = option_map (λ d. view d.now) parts.settings;
   commits = option_map (λ d. view d.now) parts.commits;
+  script = option_map (λ d. view d.now) parts.script;
 }
 
 abbrev pub seen_listing : lent_listing.Listing → Listing
@@ -25,9 +27,18 @@ abbrev pub seen_bundle : lent_bundle.Bundle → Bundle
 seen_bundle bundle = record {
   schema = bundle.schema;
   routes = bundle.routes;
+  settings = bundle.settings;
   listing = seen_listing bundle.listing;
   commits = option_map (λ d. view d.now) bundle.commits;
+  script = option_map (λ d. view d.now) bundle.script;
 }
 
 abbrev pub seen_loaded : lent_loaded.Loaded → Loaded
-seen_loaded loaded = record { schema = loaded.schema; routes = loaded.routes; set = loaded.set; commits = items_view loaded.commits.now }
+seen_loaded loaded = record {
+  schema = loaded.schema;
+  routes = loaded.routes;
+  set = loaded.set;
+  settings = loaded.settings;
+  commits = items_view loaded.commits.now;
+  script = option_map (λ d. view d.now) loaded.script;
+}

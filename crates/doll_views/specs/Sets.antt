@@ -10,7 +10,7 @@ use Rattle.doll_set.specs.declared.fault.SetFault.{SetFault}
 use Rattle.doll_set.specs.declared.fault.SetFault.TheVariants as fault
 use Rattle.doll_views.specs.declared.refusal.Kind.TheVariants as kind
 use Rattle.doll_views.specs.declared.refusal.Refusal.{Refusal}
-use Rattle.doll_views.specs.declared.refusal.Refusal.TheVariants.{NotBuilt}
+use Rattle.doll_views.specs.declared.refusal.Refusal.TheVariants.{Memory}
 use Rattle.doll_views.specs.Views.{views_refusal}
 
 -- ---- numbers
@@ -57,7 +57,7 @@ set_refusal files (fault.DepthOver name) = views_refusal (number_of files name) 
 set_refusal files (fault.TooWide name) = views_refusal (number_of files name) kind.TooWide
 set_refusal files (fault.Clash old new) = views_refusal 0 kind.Clash
 -- this never comes: no definition answers want of memory
-set_refusal files fault.Memory = NotBuilt
+set_refusal files fault.Memory = Memory
 
 abbrev pub or_set_refusal : List ViewFile → Result ReadSet SetFault → Result ReadSet Refusal
 or_set_refusal files (Ok set) = Ok set

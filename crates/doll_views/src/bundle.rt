@@ -5,14 +5,13 @@ ghost use Rattle.doll_base.specs.Faults.{HasCause, KeepsCount};
 ghost use Rattle.doll_views.specs.declared.refusal.Refusal.TheVariants.{Failed};
 ghost use Rattle.serde_json.specs.View.{items_view, view};
 ghost use Rattle.doll_text.specs.Gives.{GivesBy, GivesExactly};
-ghost use Rattle.doll_route.specs.Routes.{AreRoutesOf};
-ghost use Rattle.doll_views.specs.Bundles.{commit_refusal, json_of, bundle_in, commits_in, loaded_of, with_files};
+ghost use Rattle.doll_views.specs.Bundles.{WasRead, commit_refusal, json_of, bundle_in, commits_in, loaded_of, with_files};
 ghost use Rattle.doll_views.specs.Files.{AsksFirst, GivesFor, wanted_names};
 ghost use Rattle.doll_views.specs.Seen.{seen_bundle, seen_loaded};
 
 use crate::faults::{routes_in, schema_in};
 use crate::files::read_files;
-use crate::form::parts_of;
+use crate::form::{parts_of, settings_of};
 use crate::refusal::{BundlePart, Kind, Refusal};
 use crate::sets::set_in;
 use crate::views::{Listing, listing_of};
@@ -20,6 +19,7 @@ use doll_base::{Folder, ViewFile};
 use doll_route::Routes;
 use doll_schema::Schema;
 use doll_set::TemplateSet;
+use doll_settings::SiteSettings;
 use doll_text::Memory;
 use serde_json::Value;
 use std::alloc::Global;
@@ -29,37 +29,45 @@ use std::alloc::Global;
 pub struct Bundle<'a> {
     pub schema: Schema,
     pub routes: Routes,
+    pub settings: SiteSettings,
     pub listing: Listing,
     pub commits: Option<&'a Value>,
+    pub script: Option<&'a Value>,
 }
 
-/// A bundle once its files are read: the set that they make, and its commits as they stand in it. Whether these can be made
-/// isn't told.
+/// A bundle once its files are read: the set that they make, and its commits and its script as they stand in it. Whether these
+/// commits can be made, and whether that is a script, isn't told.
 #[derive(Drop)]
 pub struct Loaded<'a> {
     pub schema: Schema,
     pub routes: Routes,
     pub set: TemplateSet,
+    pub settings: SiteSettings,
     pub commits: &'a [Value],
+    pub script: Option<&'a Value>,
 }
 
 impl<'a> Bundle<'a> {
-    /// The bundle that a JSON value is: its form, its schema, its routes and what it says of its files, or the first refusal in
-    /// this order.
+    /// The bundle that a JSON value is: its form, its schema, its routes, its settings and what it says of its files, or the first
+    /// refusal in this order.
     #[tactic(auto, unfolding(crate::specs::Bundles::bundle_in))]
     pub fn read(alloc: Global, json: &'a Value) -> Result<Bundle<'a>, Refusal>
         ensures exact { GivesBy seen_bundle Refusal.Memory (bundle_in (view json.now)) result }
-        ensures fits { IfOk result (λ bundle. AreRoutesOf bundle.schema bundle.routes) }
+        ensures read { IfOk result
+            (λ bundle. WasRead bundle.schema bundle.routes bundle.settings) }
     {
         let parts = parts_of(json)?;
         let schema = schema_in(alloc, parts.schema)?;
         let routes = routes_in(alloc, &schema, parts.routes)?;
+        let settings = settings_of(parts.settings)?;
         let listing = listing_of(alloc, parts.views, parts.files)?;
         Ok(Bundle {
             schema,
             routes,
+            settings,
             listing,
             commits: parts.commits,
+            script: parts.script,
         })
     }
 
@@ -69,8 +77,8 @@ impl<'a> Bundle<'a> {
         ensures answer { GivesFor seen_loaded
             (F.files folder.old) (wanted_names self.entry.listing.wanted.items)
             (loaded_of (seen_bundle self.entry)) result }
-        ensures fits { AreRoutesOf self.entry.schema self.entry.routes
-            → IfOk result (λ loaded. AreRoutesOf loaded.schema loaded.routes) }
+        ensures read { WasRead self.entry.schema self.entry.routes self.entry.settings
+            → IfOk result (λ loaded. WasRead loaded.schema loaded.routes loaded.settings) }
         ensures asked { AsksFirst (wanted_names self.entry.listing.wanted.items)
             (F.asked folder.old) (F.asked folder.new) }
         ensures kept { F.files folder.new ≡ F.files folder.old }
@@ -92,8 +100,8 @@ fn with_files<'a>(
 ) -> Result<Loaded<'a>, Refusal>
     ensures exact { GivesBy seen_loaded Refusal.Memory
         (with_files (seen_bundle bundle.entry) files.now) result }
-    ensures fits { AreRoutesOf bundle.entry.schema bundle.entry.routes
-        → IfOk result (λ loaded. AreRoutesOf loaded.schema loaded.routes) }
+    ensures read { WasRead bundle.entry.schema bundle.entry.routes bundle.entry.settings
+        → IfOk result (λ loaded. WasRead loaded.schema loaded.routes loaded.settings) }
     ensures alive { result ≢ Err Refusal.Failed }
 {
     let set = set_in(alloc, files)?;
@@ -102,7 +110,9 @@ fn with_files<'a>(
         schema: bundle.schema,
         routes: bundle.routes,
         set,
+        settings: bundle.settings,
         commits,
+        script: bundle.script,
     })
 }
 

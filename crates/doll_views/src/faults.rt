@@ -1,6 +1,6 @@
 //! The schema and the routes of a bundle, and their faults as the bundle's.
 
-ghost use Rattle.std.specs.Prelude.{◌≡◌, ◌≢◌, option_map, IfOk};
+ghost use Rattle.std.specs.Prelude.{◌≡◌, option_map, IfOk};
 ghost use Rattle.serde_json.specs.View.{view};
 ghost use Rattle.doll_text.specs.Gives.{Gives};
 ghost use Rattle.doll_schema.specs.Schemas.{schema_of};
@@ -15,8 +15,7 @@ use std::alloc::Global;
 
 /// A schema's fault as the bundle's.
 fn schema_refusal(fault: SchemaFault) -> Refusal
-    ensures named { fault ≢ SchemaFault.Memory → result ≡ schema_refusal fault }
-    ensures memory { fault ≡ SchemaFault.Memory → result ≡ Refusal.Memory }
+    ensures { result ≡ schema_refusal fault }
 {
     let (at, kind) = match fault {
         SchemaFault::BadForm { at } => (at, Kind::BadForm),
@@ -46,8 +45,7 @@ pub fn schema_in(alloc: Global, schema: &Value) -> Result<Schema, Refusal>
 
 /// A route's fault as the bundle's.
 fn route_refusal(fault: RouteFault) -> Refusal
-    ensures named { fault ≢ RouteFault.Memory → result ≡ route_refusal fault }
-    ensures memory { fault ≡ RouteFault.Memory → result ≡ Refusal.Memory }
+    ensures { result ≡ route_refusal fault }
 {
     let (number, kind) = match fault {
         RouteFault::BadForm { at } => (at, Kind::BadForm),

@@ -15,8 +15,10 @@ pub enum BundlePart {
     Json,
     Schema,
     Routes,
+    Settings,
     Views,
     Commits,
+    Script,
 }
 
 /// What is wrong with a part of a bundle. The names are those that the program prints.
@@ -61,8 +63,10 @@ impl BundlePart {
             BundlePart::Json => "json",
             BundlePart::Schema => "schema",
             BundlePart::Routes => "routes",
+            BundlePart::Settings => "settings",
             BundlePart::Views => "views",
             BundlePart::Commits => "commits",
+            BundlePart::Script => "script",
         }
     }
 }
@@ -108,8 +112,6 @@ impl Kind {
 /// The answer to a bundle that isn't served.
 #[derive(Clone, Copy, PartialEq, Eq)]
 pub enum Refusal {
-    /// The bundle has a part that isn't read yet.
-    NotBuilt,
     /// A part of the bundle is refused. `number` is that of the model, route, file or commit that the fault is in, else 0.
     Refused {
         part: BundlePart,
