@@ -1,5 +1,5 @@
 -- What is read of a bundle, and the site that it makes, are never a folder's fault.
-use Rattle.std.proofs.Common.{◌≡◌, ◌≢◌, ℕ, ◌+◌, Bool, true, false, not, List, [], ◌∷◌, ◌++◌, length, Option, None, Some, Result, Ok, Err}
+use Rattle.std.proofs.Common.{◌≡◌, ◌≢◌, ℕ, ◌+◌, Bool, true, false, List, [], ◌∷◌, ◌++◌, length, Option, None, Some, Result, Ok, Err}
 use Rattle.std.specs.Prelude.{codes}
 use Rattle.std.specs.Option.{ok_or, option_map_or}
 use Rattle.serde_json.specs.Data.{Data, Items, no_items, item}
@@ -15,12 +15,13 @@ use Rattle.doll_route.specs.Readings.{routes_of}
 use Rattle.doll_route.specs.declared.fault.RouteFault.{RouteFault}
 use Rattle.doll_route.specs.declared.fault.RouteFault.TheVariants as route_fault
 use Rattle.doll_route.specs.declared.route.Route.{Route}
+use Rattle.doll_settings.specs.Settings.{settings_in}
 use Rattle.doll_views.specs.Bundles.{Loaded, bundle_in}
 use Rattle.doll_views.specs.Faults.{or_schema_refusal, or_route_refusal, routes_in}
-use Rattle.doll_views.specs.Forms.{bundle_keys, has_unbuilt, parts_of}
+use Rattle.doll_views.specs.Forms.{bundle_keys, parts_of, settings_of}
 use Rattle.doll_views.specs.Views.{Listing, unwanted, views_if_given, with_wanted, listing_of, listed, all_sourced, sourced, with_names, views_in}
 use Rattle.doll_views.specs.declared.refusal.Refusal.{Refusal}
-use Rattle.doll_views.specs.declared.refusal.Refusal.TheVariants.{Failed, Memory, NotBuilt, Refused}
+use Rattle.doll_views.specs.declared.refusal.Refusal.TheVariants.{Failed, Memory, Refused}
 use Rattle.doll_views.specs.declared.refusal.BundlePart.{BundlePart}
 use Rattle.doll_views.specs.declared.refusal.BundlePart.TheVariants as part
 use Rattle.doll_views.specs.declared.refusal.Kind.{Kind}
@@ -33,8 +34,8 @@ use Rattle.doll_journal.specs.declared.change.Commit.{Commit}
 use Rattle.doll_records.specs.declared.fault.RecordFault.{RecordFault}
 use Rattle.doll_records.specs.declared.fault.RecordFault.TheVariants as fault
 use Rattle.doll_records.specs.Commitments.{committed}
-use Rattle.doll_records.specs.Histories.{table_of}
 use Rattle.doll_bundle.specs.Commits.{asked_in, commit_result, commits_from, next_asked, next_reading, or_refusal, readings_behind, recorded, why_kind}
+use Rattle.doll_bundle.specs.Scripts.{lines_of}
 use Rattle.doll_bundle.specs.Sites.{site_of}
 
 -- The answer isn't a folder's fault.
@@ -56,16 +57,12 @@ fine x = record { isnt = λ is. absurd (cc is) }
 refused : {A : Type 0} (p : BundlePart) (n : ℕ) (k : Kind) → IsAlive {A = A} (Err (Refused p n k))
 refused p n k = record { isnt = λ is. absurd (cc is) }
 
-unbuilt : {A : Type 0} → IsAlive {A = A} (Err NotBuilt)
-unbuilt = record { isnt = λ is. absurd (cc is) }
+no_memory : {A : Type 0} → IsAlive {A = A} (Err Memory)
+no_memory = record { isnt = λ is. absurd (cc is) }
 
 check_refused : (test : Bool) (p : BundlePart) (n : ℕ) (k : Kind) → IsAlive (check test (Refused p n k))
 check_refused true p n k = fine tt
 check_refused false p n k = refused p n k
-
-check_unbuilt : (test : Bool) → IsAlive (check test NotBuilt)
-check_unbuilt true = fine tt
-check_unbuilt false = unbuilt
 
 found_or : {A : Type 0} (o : Option A) (p : BundlePart) (n : ℕ) (k : Kind) → IsAlive (ok_or o (Refused p n k))
 found_or (Some x) p n k = fine x
@@ -77,13 +74,15 @@ parts_alive : (d : Data) → IsAlive (parts_of d)
 parts_alive d =
     then_alive _ _ (check_refused (has_only bundle_keys d) part.Json 0 kind.BadForm)
     (bind_alive _ _ (found_or (get (codes "schema") d) part.Json 0 kind.BadForm)
-    (λ schema. then_alive _ _ (check_unbuilt (not (has_unbuilt d))) (fine (record {
+    (λ schema. fine (record {
       schema = schema;
       routes = get (codes "routes") d;
       views = get (codes "views") d;
       files = get (codes "files") d;
+      settings = get (codes "settings") d;
       commits = get (codes "commits") d;
-    }))))
+      script = get (codes "script") d;
+    })))
 
 schema_alive : (r : Result Schema SchemaFault) → IsAlive (or_schema_refusal r)
 schema_alive (Ok schema) = fine schema
@@ -93,7 +92,7 @@ schema_alive (Err (schema_fault.UnknownKind at)) = refused part.Schema at.model 
 schema_alive (Err (schema_fault.DuplicateName at)) = refused part.Schema at.model kind.DuplicateName
 schema_alive (Err (schema_fault.UnknownModel at)) = refused part.Schema at.model kind.UnknownModel
 schema_alive (Err (schema_fault.BadInverse at)) = refused part.Schema at.model kind.BadInverse
-schema_alive (Err schema_fault.Memory) = unbuilt
+schema_alive (Err schema_fault.Memory) = no_memory
 
 route_alive : (r : Result (List Route) RouteFault) → IsAlive (or_route_refusal r)
 route_alive (Ok routes) = fine routes
@@ -103,11 +102,14 @@ route_alive (Err (route_fault.Reserved at)) = refused part.Routes at kind.Reserv
 route_alive (Err (route_fault.UnknownModel at)) = refused part.Routes at kind.UnknownModel
 route_alive (Err (route_fault.Duplicate at)) = refused part.Routes at kind.Duplicate
 route_alive (Err (route_fault.TooMany at)) = refused part.Routes at kind.TooMany
-route_alive (Err route_fault.Memory) = unbuilt
+route_alive (Err route_fault.Memory) = no_memory
 
 routes_alive : (schema : ModelList) (routes : Option Data) → IsAlive (routes_in schema routes)
 routes_alive schema None = fine []
 routes_alive schema (Some d) = route_alive (routes_of schema d)
+
+settings_alive : (settings : Option Data) → IsAlive (settings_of settings)
+settings_alive settings = found_or (settings_in settings) part.Settings 0 kind.BadForm
 
 names_alive : (listing : Listing) (names : Items) → IsAlive (with_names listing names)
 names_alive listing no_items = fine listing
@@ -141,7 +143,8 @@ bundle_alive d =
     bind_alive _ _ (parts_alive d)
     (λ parts. bind_alive _ _ (schema_alive (schema_of parts.schema))
     (λ schema. bind_alive _ _ (routes_alive schema parts.routes)
-    (λ routes. bind_alive _ _ (listing_alive parts.views parts.files) (λ listing. fine _))))
+    (λ routes. bind_alive _ _ (settings_alive parts.settings)
+    (λ settings. bind_alive _ _ (listing_alive parts.views parts.files) (λ listing. fine _)))))
 
 -- ---- the site
 
@@ -150,8 +153,8 @@ committed_alive number (Ok x) = fine x
 committed_alive number (Err (fault.HistoryFull count)) = refused part.Commits number kind.HistoryFull
 committed_alive number (Err (fault.MomentsEnded last)) = refused part.Commits number kind.MomentsEnded
 committed_alive number (Err (fault.Refused index what)) = refused part.Commits number (why_kind what)
-committed_alive number (Err fault.Kept) = unbuilt
-committed_alive number (Err fault.Memory) = unbuilt
+committed_alive number (Err fault.Kept) = no_memory
+committed_alive number (Err fault.Memory) = no_memory
 
 recorded_alive : (schema : Schema) (history : List Commit) (time : ℕ) (changes : List Change) → IsAlive (recorded schema history time changes)
 recorded_alive schema history time changes =
@@ -170,8 +173,16 @@ commits_alive schema history readings (item d commits) =
 
 pub site_alive : (loaded : Loaded) (readings : List ℕ) → IsAlive (site_of loaded readings)
 site_alive loaded readings =
-    bind_alive _ _ (bind_alive _ _ (commits_alive loaded.schema [] readings loaded.commits) (λ history. fine (table_of loaded.schema history)))
-    (λ table. fine (record { schema = loaded.schema; routes = loaded.routes; set = loaded.set; table = table }))
+    bind_alive _ _ (commits_alive loaded.schema [] readings loaded.commits)
+    (λ history. bind_alive _ _ (found_or (lines_of loaded.script) part.Script 0 kind.BadForm)
+    (λ script. fine (record {
+      schema = loaded.schema;
+      routes = loaded.routes;
+      set = loaded.set;
+      history = history;
+      settings = loaded.settings;
+      script = script;
+    })))
 
 -- ---- answers
 

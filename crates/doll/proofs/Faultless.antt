@@ -1,7 +1,7 @@
 -- What is told of sites whose templates have no faults.
 use Rattle.std.proofs.Common.{◌≡◌, ℕ, List, [], Result, Ok, Err, IfOk, ap, sym, ◌∙◌, arith}
 use Rattle.std.specs.List.Sorted.{IsStrictlySortedBy}
-use Rattle.doll_bundle.specs.declared.site.Site.{Site}
+use Rattle.doll_bundle.specs.Sites.{Site, page_after}
 use Rattle.doll_lint.specs.Faults.{AreLintFaults, IsClean}
 use Rattle.doll_route.specs.declared.route.Route.{Route}
 use Rattle.doll_schema.specs.Models.{ModelList}
@@ -27,10 +27,10 @@ clean_reply set schema routes (Err e) clean is = tt
 
 -- of a typed site the page is told, and what its lint finds
 pub typed_page : {F : Type 0} (site : Site) (path : List ℕ) (set : ReadSet) (schema : ModelList) (result : Result Reply F) → set ≡ site.set → schema ≡ site.schema → IsTyped site.set site.schema site.routes
-    → IfOk result (λ reply. reply ≡ page_reply (record { schema = schema; routes = site.routes; set = set; table = site.table }) path) → IfOk result (IsPlainReply site path)
+    → IfOk result (λ reply. reply ≡ page_reply (page_after schema site.routes set site.history path) path) → IfOk result (IsPlainReply site path)
 typed_page site path set schema (Ok reply) sets schemas typed is =
-    let same_set = ap (λ s. page_reply (record { schema = schema; routes = site.routes; set = s; table = site.table }) path) sets in
-    let same_schema = ap (λ s. page_reply (record { schema = s; routes = site.routes; set = site.set; table = site.table }) path) schemas in
+    let same_set = ap (λ s. page_reply (page_after schema site.routes s site.history path) path) sets in
+    let same_schema = ap (λ s. page_reply (page_after s site.routes site.set site.history path) path) schemas in
     ([], typed_none site.set site.schema site.routes typed, is ∙ same_set ∙ same_schema)
 typed_page site path set schema (Err e) sets schemas typed is = tt
 

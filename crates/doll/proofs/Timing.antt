@@ -5,14 +5,14 @@ use Rattle.serde_json.specs.Data.{Data}
 use Rattle.doll_base.specs.Folders.{file_named}
 use Rattle.doll_base.specs.Streams.{Appended}
 use Rattle.doll_bundle.proofs.ClockReadings.{appended_none}
-use Rattle.doll_bundle.specs.Sites.{readings_needed}
+use Rattle.doll_bundle.specs.Sites.{Site, readings_needed}
 use Rattle.doll_views.specs.Bundles.{Bundle, Loaded, json_of, bundle_in, bundle_of, loaded_of}
 use Rattle.doll_views.specs.Files.{AsksFirst, GivesFor, IsGiven, wanted_names}
 use Rattle.doll_views.specs.Forms.{json_refusal}
 use Rattle.doll_views.specs.declared.refusal.Refusal.{Refusal}
 use Rattle.doll_views.specs.declared.refusal.Refusal.TheVariants.{Memory}
 use Rattle.doll.specs.declared.reply.Reply.{Reply}
-use Rattle.doll.specs.Replies.{IsLoadedReply, names_in, refusal_reply}
+use Rattle.doll.specs.Replies.{IsLoadedReply, IsMadeReply, IsRefusalReply, names_in}
 use Rattle.doll.specs.Timed.{AnswersFor, AnswersTimed, IsTold}
 use Rattle.doll.specs.Words.{Command}
 
@@ -42,7 +42,7 @@ loaded_answer u command told bundle loaded before after result gives timed = (gi
 
 -- files that are refused are told without a reading
 pub refused_files : {X F : Type 0} (u : X → Loaded) (command : Command) (told : Option (List (List ℕ × List ℕ))) (bundle : Bundle) (why : Refusal) (now : Option (List ℕ)) (result : Result Reply F)
-    → GivesFor u told (wanted_names bundle.listing.wanted) (loaded_of bundle) (Err why) → IfOk result (λ reply. reply ≡ refusal_reply why) → IfOk result (λ reply. IsTold why)
+    → GivesFor u told (wanted_names bundle.listing.wanted) (loaded_of bundle) (Err why) → IfOk result (IsRefusalReply why) → IfOk result (λ reply. IsTold why)
     → AnswersFor command (Ok bundle) told now now result
 refused_files u command told bundle why now (Ok reply) gives is real =
     (gives.0, gives.1, ([], appended_none now, omega arith, (rw (gives.2 real.0 real.1) refl, rw (gives.2 real.0 real.1) is)))
@@ -50,11 +50,17 @@ refused_files u command told bundle why now (Err e) gives is real = (gives.0, gi
 
 -- a refused bundle is told without asking
 pub refused_bundle : {F : Type 0} (command : Command) (bundle : Result Bundle Refusal) (told : Option (List (List ℕ × List ℕ))) (why : Refusal) (now : Option (List ℕ)) (result : Result Reply F)
-    → ((why ≡ Memory → ⊥) → bundle ≡ Err why) → IfOk result (λ reply. reply ≡ refusal_reply why) → IfOk result (λ reply. IsTold why)
+    → ((why ≡ Memory → ⊥) → bundle ≡ Err why) → IfOk result (IsRefusalReply why) → IfOk result (λ reply. IsTold why)
     → AnswersFor command bundle told now now result
 refused_bundle command bundle told why now (Ok reply) gives is real =
     (given_of told (names_in bundle), given_whole told (names_in bundle), ([], appended_none now, omega arith, (rw (gives real.0) refl, rw (gives real.0) is)))
 refused_bundle command bundle told why now (Err e) gives is real = (given_of told (names_in bundle), given_whole told (names_in bundle), ([], appended_none now, omega arith, tt))
+
+-- so is a site that isn't made
+pub refused_site : {F : Type 0} (command : Command) (site : Result Site Refusal) (why : Refusal) (result : Result Reply F)
+    → ((why ≡ Memory → ⊥) → site ≡ Err why) → IfOk result (IsRefusalReply why) → IfOk result (λ reply. IsTold why) → IfOk result (IsMadeReply command site)
+refused_site command site why (Ok reply) gives is real = rw (gives real.0) is
+refused_site command site why (Err e) gives is real = tt
 
 -- where there is no answer, none was needed
 pub no_answer : {F : Type 0} (command : Command) (bundle : Result Bundle Refusal) (told : Option (List (List ℕ × List ℕ))) (now : Option (List ℕ)) (e : F) → AnswersFor command bundle told now now (Err e)

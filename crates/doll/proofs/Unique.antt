@@ -1,6 +1,6 @@
 -- A site has one reply to a command.
-use Rattle.std.proofs.Common.{◌≡◌, ℕ, List, [], ◌∷◌, ap, sym, subst, ◌∙◌}
-use Rattle.doll_bundle.specs.declared.site.Site.{Site}
+use Rattle.std.proofs.Common.{◌≡◌, ◌≢◌, ℕ, List, [], ◌∷◌, refl, ap, sym, subst, ◌∙◌}
+use Rattle.doll_bundle.specs.Sites.{Site}
 use Rattle.doll_faults.proofs.Ascending.{one_lint_list, one_type_list}
 use Rattle.doll_route.specs.declared.route.Route.{Route}
 use Rattle.doll_schema.specs.Models.{ModelList}
@@ -8,7 +8,7 @@ use Rattle.doll_set.specs.Sets.{ReadSet}
 use Rattle.doll_types.specs.declared.fault.TypeFault.{TypeFault}
 use Rattle.doll.specs.declared.reply.Reply.{Reply}
 use Rattle.doll.specs.Replies.{IsLinted, IsLintReply, IsPlainReply, IsSiteReply, TellsLint, lint_reply, plain_reply}
-use Rattle.doll.specs.Words.{Command, Plain, Lint, Digests}
+use Rattle.doll.specs.Words.{Command, Plain, Lint, Digests, Replay}
 
 one_page : (site : Site) (path : List ℕ) (one other : Reply) → IsPlainReply site path one → IsPlainReply site path other → one ≡ other
 one_page site path one other a b = a.2 ∙ ap (plain_reply site path) (one_type_list site.set site.schema site.routes a.0 b.0 a.1 b.1) ∙ sym b.2
@@ -24,7 +24,8 @@ one_lint : (site : Site) (one other : Reply) → IsLintReply site one → IsLint
 one_lint site one other a b =
     one_told site b.0 one other (subst (λ faults. TellsLint site faults one) (one_type_list site.set site.schema site.routes a.0 b.0 a.1 b.1) a.2) b.2
 
-pub one_reply : (command : Command) (site : Site) (one other : Reply) → IsSiteReply command site one → IsSiteReply command site other → one ≡ other
-one_reply (Plain path) site one other a b = one_page site path one other a b
-one_reply Lint site one other a b = one_lint site one other a b
-one_reply Digests site one other a b = a ∙ sym b
+pub one_reply : (command : Command) (site : Site) (one other : Reply) → command ≢ Replay → IsSiteReply command site one → IsSiteReply command site other → one ≡ other
+one_reply (Plain path) site one other but a b = one_page site path one other a b
+one_reply Lint site one other but a b = one_lint site one other a b
+one_reply Digests site one other but a b = a ∙ sym b
+one_reply Replay site one other but a b = absurd (but refl)

@@ -1,4 +1,5 @@
 pub mod Replies
+pub mod Stages
 pub mod Statuses
 pub mod Timed
 pub mod Words

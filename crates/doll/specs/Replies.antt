@@ -1,11 +1,23 @@
 -- What the program answers to its words, its input, the files of a folder and the readings of a clock (this project's own).
-use Rattle.std.specs.Prelude.{ℕ, ◌≡◌, ◌≤◌, nat_lt, List, [], ◌∷◌, ◌++◌, length, Option, None, Some, Result, Ok, Err, codes, IfSome, if◌then◌else◌}
+use Rattle.std.specs.Prelude.{ℕ, ◌≡◌, ◌≢◌, ◌≤◌, nat_lt, List, [], ◌∷◌, ◌++◌, length, Option, None, Some, Result, Ok, Err, codes, IfSome, if◌then◌else◌}
 use Rattle.std.specs.Option.{option_map_or}
+use Rattle.std.specs.Fmt.{decimal}
 use Rattle.doll_base.specs.Streams.{Appended, AppendedPart}
+use Rattle.doll_core.specs.States.{CoreState}
+use Rattle.doll_keep.specs.Calls.{IsFaultless}
+use Rattle.doll_replay.specs.Reports.{Replays}
+use Rattle.doll_replay.specs.declared.playing.Replayed.{Replayed}
+use Rattle.doll_replay.specs.declared.playing.Replayed.TheVariants as replayed
+use Rattle.doll_script.specs.Scripts.{orders_of}
+use Rattle.doll_script.specs.declared.order.Order.{Order}
+use Rattle.doll_script.specs.declared.script.ScriptFault.{ScriptFault}
+use Rattle.doll_script.specs.declared.script.ScriptFault.TheVariants as script_fault
 use Rattle.doll_views.specs.Bundles.{Bundle, Loaded, bundle_of, loaded_of}
 use Rattle.doll_views.specs.Digests.{digest_lines}
 use Rattle.doll_views.specs.Files.{AsksFirst, IsGiven, wanted_names}
 use Rattle.doll_views.specs.Refusals.{refusal_line}
+use Rattle.doll_views.specs.declared.refusal.BundlePart.{BundlePart}
+use Rattle.doll_views.specs.declared.refusal.Kind.{Kind}
 use Rattle.doll_views.specs.declared.refusal.Refusal.{Refusal}
 use Rattle.doll_views.specs.declared.refusal.Refusal.TheVariants as refusal
 use Rattle.doll_route.specs.declared.route.Route.{Route}
@@ -16,13 +28,12 @@ use Rattle.doll_types.specs.Faults.{AreTypeFaults}
 use Rattle.doll_lint.specs.declared.fault.LintFault.{LintFault}
 use Rattle.doll_lint.specs.Faults.{AreLintFaults}
 use Rattle.doll_faults.specs.Lines.{lint_lines, type_lines}
-use Rattle.doll_bundle.specs.Sites.{page_at, readings_needed, site_of}
-use Rattle.doll_bundle.specs.declared.site.Site.{Site}
+use Rattle.doll_bundle.specs.Sites.{Site, page_at, readings_needed, site_of}
 use Rattle.doll.specs.declared.reply.Reply.{Reply}
 use Rattle.doll.specs.declared.reply.TheConstants.{LONGEST_INPUT}
 use Rattle.doll.specs.declared.status.Status.{Status}
 use Rattle.doll.specs.declared.status.Status.TheVariants as status
-use Rattle.doll.specs.Words.{Command, Plain, Lint, Digests, command_of}
+use Rattle.doll.specs.Words.{Command, Plain, Lint, Digests, Replay, command_of}
 
 -- a text and a line end
 abbrev pub line : List ℕ → List ℕ
@@ -34,26 +45,24 @@ usage = record { status = status.WrongWords; text = line (codes "usage: doll pla
 abbrev pub too_long : Reply
 too_long = record { status = status.TooLong; text = line (codes "too long 16777216") }
 
-abbrev pub not_built : Reply
-not_built = record { status = status.NotBuilt; text = line (codes "not built") }
-
 abbrev pub unknown : List ℕ → Reply
 unknown path = record { status = status.UnknownPath; text = line (codes "unknown " ++ path) }
 
--- a bundle that is refused, or has a part that isn't read yet
-abbrev pub refusal_reply : Refusal → Reply
-refusal_reply (refusal.Refused part number what) = record { status = status.BundleRefused; text = line (refusal_line part number what) }
-refusal_reply refusal.NotBuilt = not_built
-refusal_reply refusal.TooLong = too_long
--- these two never come: no definition answers a folder's fault or want of memory
-refusal_reply refusal.Failed = not_built
-refusal_reply refusal.Memory = not_built
+abbrev pub refused : BundlePart → ℕ → Kind → Reply
+refused part number what = record { status = status.BundleRefused; text = line (refusal_line part number what) }
+
+-- The reply tells a bundle that is refused. A folder's fault and want of memory have no reply.
+abbrev pub IsRefusalReply : Refusal → Reply → Type 0
+IsRefusalReply (refusal.Refused part number what) reply = reply ≡ refused part number what
+IsRefusalReply refusal.TooLong reply = reply ≡ too_long
+IsRefusalReply refusal.Failed reply = ⊥
+IsRefusalReply refusal.Memory reply = ⊥
 
 -- ---- what is asked of a site
 
--- the page of a path
-abbrev pub page_reply : Site → List ℕ → Reply
-page_reply site path = option_map_or (λ page. record { status = status.Done; text = page }) (page_at site path) (unknown path)
+-- the page of a path, where it has one
+abbrev pub page_reply : Option (List ℕ) → List ℕ → Reply
+page_reply page path = option_map_or (λ text. record { status = status.Done; text = text }) page (unknown path)
 
 -- what tells faults of types
 abbrev pub untyped : List TypeFault → Reply
@@ -61,7 +70,7 @@ untyped faults = record { status = status.Untyped; text = type_lines faults }
 
 -- the page of a path of a site with these faults of types: they are told where there are any
 abbrev pub plain_reply : Site → List ℕ → List TypeFault → Reply
-plain_reply site path [] = page_reply site path
+plain_reply site path [] = page_reply (page_at site path) path
 plain_reply site path (fault ∷ faults) = untyped (fault ∷ faults)
 
 -- `clean`, or these faults of a lint where there are any
@@ -90,27 +99,87 @@ TellsLint site (fault ∷ faults) reply = reply ≡ untyped (fault ∷ faults)
 abbrev pub IsLintReply : Site → Reply → Type 0
 IsLintReply site reply = (faults : List TypeFault) × AreTypeFaults site.set site.schema site.routes faults × TellsLint site faults reply
 
+-- ---- what a site's script comes to
+
+-- a line of a script that is no order, or at which it stopped
+abbrev pub script_refused : ℕ → Reply
+script_refused number = record { status = status.ScriptRefused; text = line (codes "script " ++ decimal number) }
+
+-- the report of a script, or the line at which it stopped
+abbrev pub replayed_reply : Replayed → Reply
+replayed_reply (replayed.Report text) = record { status = status.Done; text = text }
+replayed_reply (replayed.Stopped number) = script_refused number
+
+-- A script begins over a site: its history is that of the bundle's commits, behind a keeper that fails at no call, its shelf has the site's settings and no
+-- entries, and no page is being rendered.
+pub record BeginsOver (site : Site) (begin : CoreState) : Type 0 where
+  pub set : begin.world.checked.set ≡ site.set
+  pub schema : begin.world.checked.schema ≡ site.schema
+  pub routes : begin.world.checked.routes ≡ site.routes
+  pub history : begin.world.records.history ≡ site.history
+  pub models : begin.world.records.schema ≡ site.schema
+  pub keeper : IsFaultless begin.world.records.keeper.plan
+  pub shelf : begin.world.shelf ≡ record { settings = site.settings.shelf; entries = []; writes = 0 }
+  pub sessions : (number : ℕ) → begin.sessions number ≡ None
+
+-- The reply tells what these orders come to, from such a beginning. Each page of theirs is the direct rendering over its session's snapshot.
+pub record IsPlayed (site : Site) (orders : List Order) (reply : Reply) : Type 0 where
+  pub begin : CoreState
+  pub end : CoreState
+  pub result : Replayed
+  pub begins : BeginsOver site begin
+  pub replays : Replays begin orders result end
+  pub told : reply ≡ replayed_reply result
+
+-- The reply tells what these orders come to, or the first line that is none. No definition answers want of memory.
+abbrev pub IsScriptReply : Site → Result (List Order) ScriptFault → Reply → Type 0
+IsScriptReply site (Ok orders) reply = IsPlayed site orders reply
+IsScriptReply site (Err (script_fault.Line number)) reply = reply ≡ script_refused number
+IsScriptReply site (Err script_fault.Memory) reply = ⊥
+
+-- The reply tells these faults of a lint, where there are any, else it is that of the site's script.
+abbrev pub TellsScript : Site → List LintFault → Reply → Type 0
+TellsScript site [] reply = IsScriptReply site (orders_of site.script) reply
+TellsScript site (fault ∷ faults) reply = reply ≡ lint_reply (fault ∷ faults)
+
+-- The reply tells exactly the faults of a site's lint, where there are any, else it is that of its script.
+abbrev pub IsLintedReply : Site → Reply → Type 0
+IsLintedReply site reply = (faults : List LintFault) × AreLintFaults site.set site.schema site.routes faults × TellsScript site faults reply
+
+-- The reply tells these faults of types, where there are any, else it is that of a site whose templates are typed.
+abbrev pub TellsReplay : Site → List TypeFault → Reply → Type 0
+TellsReplay site [] reply = IsLintedReply site reply
+TellsReplay site (fault ∷ faults) reply = reply ≡ untyped (fault ∷ faults)
+
+-- The reply tells exactly the faults of the types of a site's set, where there are any, else those of its lint, else what its script comes to.
+abbrev pub IsReplayReply : Site → Reply → Type 0
+IsReplayReply site reply = (faults : List TypeFault) × AreTypeFaults site.set site.schema site.routes faults × TellsReplay site faults reply
+
+-- ---- commands
+
 -- the reply to a command: `digests` asks for no types
 abbrev pub IsSiteReply : Command → Site → Reply → Type 0
 IsSiteReply (Plain path) site reply = IsPlainReply site path reply
 IsSiteReply Lint site reply = IsLintReply site reply
 IsSiteReply Digests site reply = reply ≡ digests_reply site
+IsSiteReply Replay site reply = IsReplayReply site reply
 
--- there is one reply to a command, since a set's faults are one list
+-- there is one reply to each other command than `replay`, since a set's faults are one list
 abbrev pub SitesHaveOneReply : Type 0
-SitesHaveOneReply = (command : Command) (site : Site) (one other : Reply) → IsSiteReply command site one → IsSiteReply command site other → one ≡ other
+SitesHaveOneReply =
+    (command : Command) (site : Site) (one other : Reply) → command ≢ Replay → IsSiteReply command site one → IsSiteReply command site other → one ≡ other
 
 -- ---- what is asked of a bundle
 
 -- of its site, if that is made
 abbrev pub IsMadeReply : Command → Result Site Refusal → Reply → Type 0
 IsMadeReply command (Ok site) reply = IsSiteReply command site reply
-IsMadeReply command (Err why) reply = reply ≡ refusal_reply why
+IsMadeReply command (Err why) reply = IsRefusalReply why reply
 
 -- of a bundle with its files, where the clock gives these readings
 abbrev pub IsLoadedReply : Command → Result Loaded Refusal → List ℕ → Reply → Type 0
 IsLoadedReply command (Ok loaded) readings reply = IsMadeReply command (site_of loaded readings) reply
-IsLoadedReply command (Err why) readings reply = reply ≡ refusal_reply why
+IsLoadedReply command (Err why) readings reply = IsRefusalReply why reply
 
 -- a bundle with its files, where the folder gives these bytes
 abbrev pub loaded_in : Result Bundle Refusal → List (Option (List ℕ)) → Result Loaded Refusal

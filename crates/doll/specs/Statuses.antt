@@ -9,10 +9,10 @@ abbrev pub status_code : Status → ℕ
 status_code status.Done = 0
 status_code status.WrongWords = 2
 status_code status.BundleRefused = 3
-status_code status.NotBuilt = 4
 status_code status.Untyped = 4
 status_code status.Unclean = 4
 status_code status.UnknownPath = 5
+status_code status.ScriptRefused = 6
 status_code status.ReadFailed = 7
 status_code status.WriteFailed = 8
 status_code status.NoMemory = 9

@@ -32,16 +32,20 @@ pub fn explained<F: Folder, S: Source, C: Clock>(
 fn path_in(words: &[String]) -> Option<&str> {
     match command_of(words)? {
         Command::Plain(path) => Some(path),
-        Command::Lint | Command::Digests => None,
+        Command::Lint | Command::Digests | Command::Replay => None,
     }
 }
 
 /// The answer that a status stands for, where it is explained.
 fn answer_of(status: Status) -> Option<Answer> {
     match status {
-        Status::Done | Status::ReadFailed | Status::WriteFailed | Status::NoMemory => None,
+        Status::Done
+        | Status::ScriptRefused
+        | Status::ReadFailed
+        | Status::WriteFailed
+        | Status::NoMemory => None,
         Status::WrongWords => Some(Answer::WrongWords),
-        Status::BundleRefused | Status::NotBuilt => Some(Answer::Refused),
+        Status::BundleRefused => Some(Answer::Refused),
         Status::Untyped => Some(Answer::Untyped),
         Status::Unclean => Some(Answer::Unclean),
         Status::UnknownPath => Some(Answer::UnknownPath),

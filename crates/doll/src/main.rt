@@ -4,6 +4,7 @@
 
 mod explained;
 mod laws;
+mod replaying;
 mod reply;
 mod status;
 mod tool;
@@ -15,6 +16,7 @@ use crate::status::Status;
 use crate::tool::run_tool;
 use doll_base::{DirFolder, StdSink, StdSource, SysClock, write_whole};
 use doll_explain::{KeptClock, KeptFolder, KeptSource};
+use std::hash::RandomState;
 use std::process::ExitCode;
 use std::{env, io};
 
@@ -43,6 +45,7 @@ fn status_of(rt: &HostRuntime) -> io::Result<Status> {
         &mut source,
         &mut sink,
         &mut clock,
+        RandomState::new(rt)?,
     );
     let mut errors = StdSink::new(rt.stderr());
     if let Some(text) = explained(alloc, status, words.as_slice(), &folder, &source, &clock) {

@@ -4,31 +4,35 @@ ghost use Rattle.std.specs.Prelude.{◌≡◌, ◌≢◌, ◌≤◌, codes, leng
 ghost use Rattle.serde_json.specs.View.{view};
 ghost use Rattle.doll_base.specs.Faults.{HasCause, KeepsCount};
 ghost use Rattle.doll_route.specs.Routes.{AreRoutesOf};
-ghost use Rattle.doll_views.specs.Bundles.{bundle_in, bundle_of};
+ghost use Rattle.doll_views.specs.Bundles.{WasRead, bundle_in, bundle_of};
 ghost use Rattle.doll_views.specs.Files.{AsksFirst};
 ghost use Rattle.doll_views.specs.Seen.{seen_bundle, seen_loaded};
-ghost use Rattle.doll_bundle.specs.Sites.{IsServed, readings_needed, site_of};
+ghost use Rattle.doll_bundle.specs.Sites.{IsServed, page_after, readings_needed, seen_site, site_of};
 ghost use Rattle.doll.specs.Replies as spec;
+ghost use Rattle.doll.specs.Stages.{WasMade};
 ghost use Rattle.doll.specs.Statuses.{IsAnswer};
 ghost use Rattle.doll.specs.Timed.{AnswersFor, AnswersTimed, IsTold};
 ghost use Rattle.doll.specs.Words.{seen_command};
 ghost use Rattle.doll.specs.declared.unanswered.Unanswered.TheVariants as unanswered;
 
+use crate::replaying::replay_reply;
 use crate::status::Status;
 use crate::unanswered::Unanswered;
 use crate::words::Command;
 use doll_base::{Clock, Folder};
 use doll_bundle::{Site, read_clock, site_page, untimed};
 use doll_faults::{lint_lines, type_lines};
+use doll_keep::MemKeeper;
 use doll_lint::checked::{LintRefusal, lint};
 use doll_lint::fault::LintFault;
-use doll_records::SharedTable;
+use doll_records::Records;
 use doll_route::Routes;
 use doll_text::{Bytes, Memory};
 use doll_types::{TypeFault, TypeRefusal, Typed, type_set};
 use doll_views::{Bundle, Loaded, Refusal, digest_lines, json_of, json_refusal, refusal_line};
 use serde_json::Value;
 use std::alloc::Global;
+use std::hash::RandomState;
 
 /// The most bytes of an input.
 pub const LONGEST_INPUT: usize = 16_777_216;
@@ -41,7 +45,7 @@ pub struct Reply {
 }
 
 /// A reply of one line.
-fn line_reply(status: Status, text: Vec<u8>) -> Result<Reply, Memory>
+pub(crate) fn line_reply(status: Status, text: Vec<u8>) -> Result<Reply, Memory>
     ensures { IfOk result (λ reply. reply ≡ record { status = status; text = spec.line text.items }) }
 {
     let mut text = text;
@@ -82,9 +86,9 @@ fn unknown(alloc: Global, path: &[u8]) -> Result<Reply, Memory>
     line_reply(Status::UnknownPath, text)
 }
 
-/// The reply to a bundle that is refused, or has a part that isn't read yet.
+/// The reply to a bundle that is refused.
 fn refusal_reply(alloc: Global, why: Refusal) -> Result<Reply, Unanswered>
-    ensures value { IfOk result (λ reply. reply ≡ spec.refusal_reply why) }
+    ensures value { IfOk result (spec.IsRefusalReply why) }
     ensures real { IfOk result (λ reply. IsTold why) }
     ensures status { IfOk result (λ reply. IsAnswer reply.status) }
     ensures cause { IsErrOf result unanswered.Failed → why ≡ Refusal.Failed }
@@ -93,10 +97,6 @@ fn refusal_reply(alloc: Global, why: Refusal) -> Result<Reply, Unanswered>
         Refusal::Refused { part, number, kind } => Ok(line_reply(
             Status::BundleRefused,
             refusal_line(alloc, part, number, kind)?,
-        )?),
-        Refusal::NotBuilt => Ok(line_reply(
-            Status::NotBuilt,
-            Vec::from_slice(alloc, b"not built")?,
         )?),
         Refusal::TooLong => Ok(too_long(alloc)?),
         Refusal::Failed => Err(Unanswered::Failed),
@@ -109,26 +109,17 @@ fn page_reply(
     alloc: Global,
     typed: &Typed,
     routes: &Routes,
-    table: &SharedTable,
+    records: &Records<MemKeeper>,
     path: &str,
 ) -> Result<Reply, Memory>
-    requires { IsServed (record {
-      schema = typed.now.schema;
-      routes = routes.now;
-      set = typed.now.set;
-      table = table.now;
-    }) }
+    requires records { records.now.schema ≡ typed.now.schema }
+    requires routes { AreRoutesOf typed.now.schema routes.now }
     ensures value { IfOk result (λ reply. reply ≡ spec.page_reply
-        (record {
-          schema = typed.now.schema;
-          routes = routes.now;
-          set = typed.now.set;
-          table = table.now;
-        })
+        (page_after typed.now.schema routes.now typed.now.set records.now.history path.now)
         path.now) }
     ensures status { IfOk result (λ reply. IsAnswer reply.status) }
 {
-    match site_page(alloc, typed.schema(), routes, typed.set(), table, path)? {
+    match site_page(alloc, typed.schema(), routes, typed.set(), records, path)? {
         Some(text) => Ok(Reply {
             status: Status::Done,
             text,
@@ -138,7 +129,7 @@ fn page_reply(
 }
 
 /// What tells faults of types.
-fn untyped(alloc: Global, faults: &[TypeFault]) -> Result<Reply, Memory>
+pub(crate) fn untyped(alloc: Global, faults: &[TypeFault]) -> Result<Reply, Memory>
     ensures value { IfOk result (λ reply. reply ≡ spec.untyped faults.now) }
     ensures status { IfOk result (λ reply. IsAnswer reply.status) }
 {
@@ -151,17 +142,18 @@ fn untyped(alloc: Global, faults: &[TypeFault]) -> Result<Reply, Memory>
 /// The page of a path of a site, or the faults of its types.
 fn plain_reply(alloc: Global, site: Site, path: &str) -> Result<Reply, Memory>
     requires { IsServed site }
-    ensures value { IfOk result (spec.IsPlainReply site path.now) }
+    ensures value { IfOk result (spec.IsPlainReply (seen_site site) path.now) }
     ensures status { IfOk result (λ reply. IsAnswer reply.status) }
 {
     let Site {
         schema,
         routes,
         set,
-        table,
+        records,
+        ..
     } = site;
     match type_set(alloc, set, schema, &routes) {
-        Ok(typed) => page_reply(alloc, &typed, &routes, &table, path),
+        Ok(typed) => page_reply(alloc, &typed, &routes, &records, path),
         Err(TypeRefusal::Faults(faults)) => untyped(alloc, faults.as_slice()),
         Err(TypeRefusal::Memory) => Err(Memory),
     }
@@ -176,7 +168,7 @@ fn clean(alloc: Global) -> Result<Reply, Memory>
 }
 
 /// What tells faults of a lint.
-fn unclean(alloc: Global, faults: &[LintFault]) -> Result<Reply, Memory>
+pub(crate) fn unclean(alloc: Global, faults: &[LintFault]) -> Result<Reply, Memory>
     requires some { faults.now ≢ [] }
     ensures value { IfOk result (λ reply. reply ≡ spec.lint_reply faults.now) }
     ensures status { IfOk result (λ reply. IsAnswer reply.status) }
@@ -201,7 +193,7 @@ fn linted(alloc: Global, typed: Typed) -> Result<Reply, Memory>
 
 /// The faults of a site's types, or those of its lint, or `clean`.
 fn lint_reply(alloc: Global, site: Site) -> Result<Reply, Memory>
-    ensures value { IfOk result (spec.IsLintReply site) }
+    ensures value { IfOk result (spec.IsLintReply (seen_site site)) }
     ensures status { IfOk result (λ reply. IsAnswer reply.status) }
 {
     match type_set(alloc, site.set, site.schema, &site.routes) {
@@ -213,7 +205,7 @@ fn lint_reply(alloc: Global, site: Site) -> Result<Reply, Memory>
 
 /// The digests of a site's templates.
 fn digests_reply(alloc: Global, site: &Site) -> Result<Reply, Memory>
-    ensures value { IfOk result (λ reply. reply ≡ spec.digests_reply site.now) }
+    ensures value { IfOk result (λ reply. reply ≡ spec.digests_reply (seen_site site.now)) }
     ensures status { IfOk result (λ reply. IsAnswer reply.status) }
 {
     Ok(Reply {
@@ -223,15 +215,22 @@ fn digests_reply(alloc: Global, site: &Site) -> Result<Reply, Memory>
 }
 
 /// What is asked of a site.
-fn site_reply(alloc: Global, command: Command<'_>, site: Site) -> Result<Reply, Memory>
-    requires { IsServed site }
-    ensures value { IfOk result (spec.IsSiteReply (seen_command command.entry) site) }
+fn site_reply(
+    alloc: Global,
+    command: Command<'_>,
+    site: Site,
+    keys: RandomState,
+) -> Result<Reply, Memory>
+    requires served { IsServed site }
+    requires made { WasMade site.set }
+    ensures value { IfOk result (spec.IsSiteReply (seen_command command.entry) (seen_site site)) }
     ensures status { IfOk result (λ reply. IsAnswer reply.status) }
 {
     match command {
         Command::Plain(path) => plain_reply(alloc, site, path),
         Command::Lint => lint_reply(alloc, site),
         Command::Digests => digests_reply(alloc, &site),
+        Command::Replay => replay_reply(alloc, keys, site),
     }
 }
 
@@ -241,15 +240,17 @@ fn made_reply(
     command: Command<'_>,
     loaded: Loaded<'_>,
     readings: &[u64],
+    keys: RandomState,
 ) -> Result<Reply, Unanswered>
-    requires { AreRoutesOf loaded.schema loaded.routes }
+    requires read { WasRead loaded.schema loaded.routes loaded.settings }
+    requires made { WasMade loaded.set }
     ensures value { IfOk result (spec.IsMadeReply
         (seen_command command.entry) (site_of (seen_loaded loaded.entry) readings.now)) }
     ensures alive { result ≢ Err unanswered.Failed }
     ensures status { IfOk result (λ reply. IsAnswer reply.status) }
 {
     match Site::of(alloc, loaded, readings) {
-        Ok(site) => Ok(site_reply(alloc, command, site)?),
+        Ok(site) => Ok(site_reply(alloc, command, site, keys)?),
         Err(why) => refusal_reply(alloc, why),
     }
 }
@@ -261,8 +262,10 @@ fn loaded_reply<C: Clock>(
     command: Command<'_>,
     loaded: Loaded<'_>,
     clock: &mut C,
+    keys: RandomState,
 ) -> Result<Reply, Unanswered>
-    requires { AreRoutesOf loaded.schema loaded.routes }
+    requires read { WasRead loaded.schema loaded.routes loaded.settings }
+    requires made { WasMade loaded.set }
     ensures value { AnswersTimed
         (readings_needed (Ok (seen_loaded loaded.entry)))
         (spec.IsLoadedReply (seen_command command.entry) (Ok (seen_loaded loaded.entry)))
@@ -271,7 +274,7 @@ fn loaded_reply<C: Clock>(
     ensures status { IfOk result (λ reply. IsAnswer reply.status) }
 {
     let readings = read_clock(alloc, clock, untimed(loaded.commits))?;
-    made_reply(alloc, command, loaded, readings.as_slice())
+    made_reply(alloc, command, loaded, readings.as_slice(), keys)
 }
 
 /// What is asked of the site of a bundle whose files are read from the folder first.
@@ -281,8 +284,9 @@ fn bundle_reply<F: Folder, C: Clock>(
     bundle: Bundle<'_>,
     folder: &mut F,
     clock: &mut C,
+    keys: RandomState,
 ) -> Result<Reply, Unanswered>
-    requires { AreRoutesOf bundle.schema bundle.routes }
+    requires { WasRead bundle.schema bundle.routes bundle.settings }
     ensures value { AnswersFor
         (seen_command command.entry) (Ok (seen_bundle bundle.entry))
         (F.files folder.old) (C.readings clock.old) (C.readings clock.new) result }
@@ -296,7 +300,7 @@ fn bundle_reply<F: Folder, C: Clock>(
     ensures status { IfOk result (λ reply. IsAnswer reply.status) }
 {
     match bundle.load(alloc, folder) {
-        Ok(loaded) => loaded_reply(alloc, command, loaded, clock),
+        Ok(loaded) => loaded_reply(alloc, command, loaded, clock, keys),
         Err(why) => refusal_reply(alloc, why),
     }
 }
@@ -308,6 +312,7 @@ fn json_reply<F: Folder, C: Clock>(
     json: &Value,
     folder: &mut F,
     clock: &mut C,
+    keys: RandomState,
 ) -> Result<Reply, Unanswered>
     ensures value { AnswersFor
         (seen_command command.entry) (bundle_in (view json.now))
@@ -322,7 +327,7 @@ fn json_reply<F: Folder, C: Clock>(
     ensures status { IfOk result (λ reply. IsAnswer reply.status) }
 {
     match Bundle::read(alloc, json) {
-        Ok(bundle) => bundle_reply(alloc, command, bundle, folder, clock),
+        Ok(bundle) => bundle_reply(alloc, command, bundle, folder, clock, keys),
         Err(why) => refusal_reply(alloc, why),
     }
 }
@@ -334,6 +339,7 @@ pub fn input_reply<F: Folder, C: Clock>(
     input: &[u8],
     folder: &mut F,
     clock: &mut C,
+    keys: RandomState,
 ) -> Result<Reply, Unanswered>
     ensures value { AnswersFor
         (seen_command command.entry) (bundle_of input.now)
@@ -348,7 +354,7 @@ pub fn input_reply<F: Folder, C: Clock>(
     ensures status { IfOk result (λ reply. IsAnswer reply.status) }
 {
     match json_of(alloc, input) {
-        Ok(Some(json)) => json_reply(alloc, command, &json, folder, clock),
+        Ok(Some(json)) => json_reply(alloc, command, &json, folder, clock, keys),
         Ok(None) => refusal_reply(alloc, json_refusal()),
         Err(_) => Err(Unanswered::Memory),
     }

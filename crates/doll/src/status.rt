@@ -12,14 +12,14 @@ pub enum Status {
     WrongWords,
     /// The bundle is refused.
     BundleRefused,
-    /// The bundle has a part that isn't read yet.
-    NotBuilt,
     /// The templates have faults of types.
     Untyped,
     /// A cached block reads beyond its key, or may share it.
     Unclean,
     /// No route has the path, or its record isn't there.
     UnknownPath,
+    /// A line of the script is no order, or its session isn't open, or is open already.
+    ScriptRefused,
     /// Reading the source or a file of the folder failed.
     ReadFailed,
     /// Writing failed.
@@ -39,10 +39,10 @@ impl Status {
             Status::Done => 0,
             Status::WrongWords => 2,
             Status::BundleRefused => 3,
-            Status::NotBuilt => 4,
             Status::Untyped => 4,
             Status::Unclean => 4,
             Status::UnknownPath => 5,
+            Status::ScriptRefused => 6,
             Status::ReadFailed => 7,
             Status::WriteFailed => 8,
             Status::NoMemory => 9,

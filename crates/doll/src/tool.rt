@@ -14,6 +14,7 @@ use crate::unanswered::Unanswered;
 use crate::words::command_of;
 use doll_base::{Clock, Folder, InputFault, Sink, Source, read_all, write_whole};
 use std::alloc::Global;
+use std::hash::RandomState;
 
 /// The reply to the words and what the source gives.
 fn reply_to<F: Folder, S: Source, C: Clock>(
@@ -22,6 +23,7 @@ fn reply_to<F: Folder, S: Source, C: Clock>(
     folder: &mut F,
     source: &mut S,
     clock: &mut C,
+    keys: RandomState,
 ) -> Result<Reply, Unanswered>
     ensures reply { IfOk result (IsReplyTo
         (record {
@@ -57,7 +59,7 @@ fn reply_to<F: Folder, S: Source, C: Clock>(
         None => return Ok(usage(alloc)?),
     };
     match read_all(alloc, source, LONGEST_INPUT) {
-        Ok(input) => input_reply(alloc, command, input.as_slice(), folder, clock),
+        Ok(input) => input_reply(alloc, command, input.as_slice(), folder, clock, keys),
         Err(InputFault::TooLong) => Ok(too_long(alloc)?),
         Err(InputFault::Failed) => Err(Unanswered::Failed),
         Err(InputFault::Memory) => Err(Unanswered::Memory),
@@ -73,6 +75,7 @@ pub fn run_tool<F: Folder, S: Source, K: Sink, C: Clock>(
     source: &mut S,
     sink: &mut K,
     clock: &mut C,
+    keys: RandomState,
 ) -> Status
     // Where nothing failed and memory was found, the status and what is written are those of the words, the input, what the
     // folder gave and the clock's readings.
@@ -126,7 +129,7 @@ pub fn run_tool<F: Folder, S: Source, K: Sink, C: Clock>(
     // Its files are the same.
     ensures kept { F.files folder.new ≡ F.files folder.old }
 {
-    let reply = match reply_to(alloc, words, folder, source, clock) {
+    let reply = match reply_to(alloc, words, folder, source, clock, keys) {
         Ok(reply) => reply,
         Err(Unanswered::Failed) => return Status::ReadFailed,
         Err(Unanswered::Memory) => return Status::NoMemory,

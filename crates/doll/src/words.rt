@@ -12,6 +12,8 @@ pub enum Command<'a> {
     Lint,
     /// The digests of all templates.
     Digests,
+    /// The report of the script.
+    Replay,
 }
 
 /// What the words ask for, where they are one of the forms.
@@ -33,6 +35,8 @@ fn only_word(word: &str) -> Option<Command<'_>>
         Some(Command::Lint)
     } else if word == "digests" {
         Some(Command::Digests)
+    } else if word == "replay" {
+        Some(Command::Replay)
     } else {
         None
     }

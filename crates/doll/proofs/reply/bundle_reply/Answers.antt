@@ -1,8 +1,13 @@
 use Rattle.std.proofs.Common.{ap, Err}
 use Rattle.doll_views.specs.Seen.{seen_bundle, seen_loaded}
 use Rattle.doll.specs.Words.{seen_command}
+use Rattle.doll.proofs.Ready.{made_loaded}
 use Rattle.doll.proofs.Timing.{loaded_answer, refused_files}
 use Rattle.doll.proofs.reply.bundle_reply.Goals as goal
+
+pub loaded_reply-requires-clause-made : goal.loaded_reply-requires-clause-made
+loaded_reply-requires-clause-made g c =
+    made_loaded (seen_bundle c.args.bundle) c.in-Ok.ensures.answer.0 (seen_loaded c.in-Ok.loaded) c.in-Ok.ensures.answer.2
 
 pub returns-in-Ok-clause-value : goal.returns-in-Ok-clause-value
 returns-in-Ok-clause-value g c =
