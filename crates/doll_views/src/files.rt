@@ -81,8 +81,7 @@ fn read_one<F: Folder>(
     ensures cause { HasCause Failed (F.faults folder.old) (F.faults folder.new) result }
     ensures count { KeepsCount (F.faults folder.old) (F.faults folder.new) }
 {
-    let name = file.name.as_str();
-    read_file(alloc, folder, number_in_folder(files, name), name)
+    read_file(alloc, folder, files, file.name.as_str())
 }
 
 /// The number of the file that is read under this name.
@@ -121,32 +120,38 @@ fn is_in_folder(source: &Source) -> bool
     }
 }
 
-/// The file with a number and a name, read from the folder.
+/// The file with a name, read from the folder. Its number is looked for only where it is refused.
 fn read_file<F: Folder>(
     alloc: Global,
     folder: &mut F,
-    number: u64,
+    files: &[NamedFile],
     name: &str,
 ) -> Result<ViewFile, Refusal>
-    ensures answer { spec.GivesFound (λ file. file)
-        (F.files folder.old) name.now (spec.read_file number name.now) result }
+    ensures answer { spec.GivesFound (λ file. file) (F.files folder.old) name.now
+        (spec.read_file (spec.number_in_folder files.now name.now) name.now) result }
     ensures asked { F.asked folder.new ≡ F.asked folder.old ++ name.now ∷ [] }
     ensures kept { F.files folder.new ≡ F.files folder.old }
     ensures cause { HasCause Failed (F.faults folder.old) (F.faults folder.new) result }
     ensures count { KeepsCount (F.faults folder.old) (F.faults folder.new) }
 {
     match folder.read_file(alloc, name, LONGEST_FILE) {
-        Ok(bytes) => text_file(alloc, number, name, bytes),
-        Err(fault) => Err(folder_refusal(number, fault)),
+        Ok(bytes) => text_file(alloc, files, name, bytes),
+        Err(fault) => Err(folder_refusal(number_in_folder(files, name), fault)),
     }
 }
 
 /// The file with these bytes.
-fn text_file(alloc: Global, number: u64, name: &str, bytes: Vec<u8>) -> Result<ViewFile, Refusal>
-    ensures { Gives Refusal.Memory (spec.text_file number name.now bytes.items) result }
+fn text_file(
+    alloc: Global,
+    files: &[NamedFile],
+    name: &str,
+    bytes: Vec<u8>,
+) -> Result<ViewFile, Refusal>
+    ensures { Gives Refusal.Memory
+        (spec.text_file (spec.number_in_folder files.now name.now) name.now bytes.items) result }
 {
     if !is_text(bytes.as_slice()) {
-        return Err(views_refusal(number, Kind::BadForm));
+        return Err(views_refusal(number_in_folder(files, name), Kind::BadForm));
     }
     Ok(ViewFile {
         name: Name::from_bytes(alloc, name.as_bytes())?,
