@@ -103,7 +103,7 @@ IsLintReply site reply = (faults : List TypeFault) × AreTypeFaults site.set sit
 
 -- a line of a script that is no order, or at which it stopped
 abbrev pub script_refused : ℕ → Reply
-script_refused number = record { status = status.ScriptRefused; text = line (codes "script " ++ decimal number) }
+script_refused number = record { status = status.ScriptRefused number; text = line (codes "script " ++ decimal number) }
 
 -- the report of a script, or the line at which it stopped
 abbrev pub replayed_reply : Replayed → Reply

@@ -39,16 +39,13 @@ fn path_in(words: &[String]) -> Option<&str> {
 /// The answer that a status stands for, where it is explained.
 fn answer_of(status: Status) -> Option<Answer> {
     match status {
-        Status::Done
-        | Status::ScriptRefused
-        | Status::ReadFailed
-        | Status::WriteFailed
-        | Status::NoMemory => None,
+        Status::Done | Status::ReadFailed | Status::WriteFailed | Status::NoMemory => None,
         Status::WrongWords => Some(Answer::WrongWords),
         Status::BundleRefused => Some(Answer::Refused),
         Status::Untyped => Some(Answer::Untyped),
         Status::Unclean => Some(Answer::Unclean),
         Status::UnknownPath => Some(Answer::UnknownPath),
+        Status::ScriptRefused { line } => Some(Answer::ScriptRefused { line }),
         Status::TooLong => Some(Answer::TooLong),
     }
 }

@@ -153,5 +153,5 @@ fn script_refused(alloc: Global, line: u32) -> Result<Reply, Memory>
     let mut digits = Buffer::new();
     let mut text = Vec::from_slice(alloc, b"script ")?;
     text.extend_from_slice(digits.format(line).as_bytes())?;
-    line_reply(Status::ScriptRefused, text)
+    line_reply(Status::ScriptRefused { line }, text)
 }

@@ -1,6 +1,6 @@
 //! What the program answers to its words and its input.
 
-ghost use Rattle.std.specs.Prelude.{◌≡◌, ◌≢◌, ◌≤◌, codes, length, [], Ok, Err, IfOk, IsErrOf};
+ghost use Rattle.std.specs.Prelude.{◌≡◌, ◌≢◌, [], Ok, Err, IfOk, IsErrOf};
 ghost use Rattle.serde_json.specs.View.{view};
 ghost use Rattle.doll_base.specs.Faults.{HasCause, KeepsCount};
 ghost use Rattle.doll_route.specs.Routes.{AreRoutesOf};

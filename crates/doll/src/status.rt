@@ -18,8 +18,8 @@ pub enum Status {
     Unclean,
     /// No route has the path, or its record isn't there.
     UnknownPath,
-    /// A line of the script is no order, or its session isn't open, or is open already.
-    ScriptRefused,
+    /// The line of the script with this number, from 1, is no order, or its session isn't open, or is open already.
+    ScriptRefused { line: u32 },
     /// Reading the source or a file of the folder failed.
     ReadFailed,
     /// Writing failed.
@@ -42,7 +42,7 @@ impl Status {
             Status::Untyped => 4,
             Status::Unclean => 4,
             Status::UnknownPath => 5,
-            Status::ScriptRefused => 6,
+            Status::ScriptRefused { .. } => 6,
             Status::ReadFailed => 7,
             Status::WriteFailed => 8,
             Status::NoMemory => 9,

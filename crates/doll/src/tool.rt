@@ -1,8 +1,8 @@
 //! The program over its words, a folder, a source, a sink and a clock.
 
 ghost use Rattle.std.specs.Prelude.{◌≡◌, ◌+◌, map, string_bytes, None, IfOk, IsErrOf};
-ghost use Rattle.doll_base.specs.Faults.{Rose, KeepsCount};
-ghost use Rattle.doll_base.specs.Streams.{Appended, AppendedPart, TookAtMost};
+ghost use Rattle.doll_base.specs.Faults.{Rose};
+ghost use Rattle.doll_base.specs.Streams.{TookAtMost};
 ghost use Rattle.doll.specs.declared.unanswered.Unanswered.TheVariants as unanswered;
 ghost use Rattle.doll.specs.Replies.{Answers, AnswersPart, AsksFor, IsReplyTo, ReadsFor};
 ghost use Rattle.doll.specs.Statuses.{IsAnswer, IsSilent, OneRose};

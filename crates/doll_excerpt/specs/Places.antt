@@ -28,6 +28,10 @@ abbrev pub last_line : List ℕ → List ℕ
 last_line [] = []
 last_line (byte ∷ more) = if list_any is_line_end more then last_line more else if is_line_end byte then more else byte ∷ more
 
+-- the column of a byte in a text that is one line, whatever it holds
+abbrev pub column_of : List ℕ → ℕ → ℕ
+column_of text at = characters (take at text) + 1
+
 -- The place of a byte: its line is one more than the line ends before it, its column one more than the characters from the
 -- line's start up to it.
 abbrev pub place_of : List ℕ → ℕ → Place

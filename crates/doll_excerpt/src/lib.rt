@@ -6,6 +6,7 @@
 
 pub mod blocks;
 pub mod excerpt;
+pub mod numbered;
 pub mod paper;
 pub mod place;
 pub mod shown;
@@ -13,6 +14,7 @@ pub mod tags;
 
 pub use blocks::{Block, add_blocks};
 pub use excerpt::{Stretch, put_line_at, put_place, put_stretch};
+pub use numbered::NumberedLine;
 pub use paper::{LONGEST_PAPER, Paper};
 pub use place::{Place, byte_at, line_start, place_of};
 pub use shown::{put_quoted, put_shown};

@@ -10,8 +10,9 @@ use crate::lints::put_lints;
 use crate::paths::{put_path, put_usage};
 use crate::report::{put_named, put_wrong};
 use crate::schema::{put_route, put_said, put_schema};
+use crate::scripts::{put_refused, put_script};
 use crate::sets::put_set;
-use crate::settings::{put_script, put_settings};
+use crate::settings::put_settings;
 use crate::types::put_types;
 use crate::words::{
     bundle_words, commit_words, file_words, json_words, listing_words, too_long_words,
@@ -43,6 +44,8 @@ pub enum Answer {
     Unclean,
     /// No page has the path.
     UnknownPath,
+    /// The line of the script with this number, from 1, is no order, or its session isn't open, or is open already.
+    ScriptRefused { line: u32 },
     /// The input or a file is too long.
     TooLong,
 }
@@ -72,9 +75,11 @@ pub fn explain(alloc: Global, answer: Answer, answered: Answered<'_>) -> Result<
             Some(name) => put_named(&mut paper, name.as_bytes(), too_long_words())?,
             None => put_named(&mut paper, b"standard input", too_long_words())?,
         },
-        Answer::Refused | Answer::Untyped | Answer::Unclean | Answer::UnknownPath => {
-            put_input(alloc, &mut paper, answer, answered)?
-        }
+        Answer::Refused
+        | Answer::Untyped
+        | Answer::Unclean
+        | Answer::UnknownPath
+        | Answer::ScriptRefused { .. } => put_input(alloc, &mut paper, answer, answered)?,
     }
     paper.finish()
 }
@@ -188,6 +193,9 @@ fn put_bundle(
 ) -> Result<(), Memory>
     requires { WasRead bundle.schema bundle.routes bundle.settings }
 {
+    if let Answer::ScriptRefused { line } = answer {
+        return put_refused(alloc, paper, bundle.script, line);
+    }
     if answer == Answer::UnknownPath {
         return match answered.path {
             Some(path) => put_path(alloc, paper, &bundle.routes, path),

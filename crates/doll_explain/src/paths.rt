@@ -15,6 +15,7 @@ these words are none of the commands
 doll plain PATH < BUNDLE     writes the page of a path: doll plain /products/1 < examples/hello.json
 doll lint < BUNDLE           writes the faults of the templates, or clean
 doll digests < BUNDLE        writes the digests of the templates
+doll replay < BUNDLE         writes what the orders of the site's script come to
 Each reads a site's bundle, a JSON object, from standard input.";
 
 /// Appends the usage.

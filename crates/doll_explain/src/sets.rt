@@ -4,7 +4,7 @@ use crate::report::{Fault, put_named, put_pointing, put_whole, source_of};
 use crate::words::{Words, set_words};
 use doll_base::ViewFile;
 use doll_erb::ErbFault;
-use doll_excerpt::{Paper, Stretch, put_quoted, put_shown, stretch_in, tag_at, token_at};
+use doll_excerpt::{Paper, Stretch, put_quoted, stretch_in, tag_at, token_at};
 use doll_expr::ExprFault;
 use doll_set::SetFault;
 use doll_text::{Memory, Name};

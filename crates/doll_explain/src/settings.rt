@@ -1,7 +1,7 @@
-//! Settings and scripts that aren't of their forms, explained.
+//! Settings that aren't of their form, explained.
 
-use crate::schema::{put_index, put_said};
-use crate::words::{line_words, other_words, script_words, setting_words, settings_words};
+use crate::schema::put_said;
+use crate::words::{other_words, setting_words, settings_words};
 use doll_excerpt::Paper;
 use doll_settings::{LATEST_TIME, MOST_IN_BATCH, MOST_SHARDS, MOST_WORKERS, limit_in, number_in};
 use doll_text::Memory;
@@ -51,22 +51,4 @@ fn is_setting(key: &str, value: &Value) -> bool {
         return number_in(value, 1, MOST_SHARDS as u64).is_some();
     }
     key == "workers" && number_in(value, 1, MOST_WORKERS as u64).is_some()
-}
-
-/// Appends what isn't of a script's form: the first item that is no text, or the whole.
-pub(crate) fn put_script(paper: &mut Paper, script: Option<&Value>) -> Result<(), Memory> {
-    paper.put("script")?;
-    let Some(script) = script else {
-        return Err(Memory);
-    };
-    let Some(items) = script.as_array() else {
-        return put_said(paper, None, script_words());
-    };
-    for (number, item) in items.as_slice().iter().enumerate() {
-        if item.as_str().is_none() {
-            put_index(paper, number as u64)?;
-            return put_said(paper, None, line_words());
-        }
-    }
-    Err(Memory)
 }

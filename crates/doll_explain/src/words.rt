@@ -1,6 +1,7 @@
 //! What is said of each kind of fault: a table for each part. A sentence goes on from what the fault carries, where it carries
 //! something, and says what is wrong; what follows says what to write instead.
 
+use crate::orders::OrderPart;
 use doll_commit::Why;
 use doll_erb::ErbFault;
 use doll_expr::ExprFault;
@@ -482,6 +483,8 @@ fn part_words(key: &str) -> Words {
     )
 }
 
+// ---- the script
+
 /// A script that is no array.
 pub(crate) fn script_words() -> Words {
     say(
@@ -497,6 +500,162 @@ pub(crate) fn line_words() -> Words {
         "A line of a script is a text, such as \"get /products/1\".",
     )
 }
+
+/// A session that an `open` begins while its page is still on the way.
+pub(crate) fn open_words() -> Words {
+    say(
+        "this session is open already",
+        "A session is open from its `open` until its page comes, with a `run` or the last `turn` of it.\n\
+         Let it come to its page first, or give this one another number.",
+    )
+}
+
+/// A session that takes a turn without being open.
+pub(crate) fn closed_words() -> Words {
+    say(
+        "this session isn't open",
+        "A session is open from its `open` until its page comes. An `open` that is answered with a status opens none.",
+    )
+}
+
+/// A line that is empty.
+pub(crate) fn empty_words() -> Words {
+    say("this line is empty", "Each line of a script is an order.")
+}
+
+/// A line that begins with no order's word.
+pub(crate) fn order_words() -> Words {
+    say(
+        "isn't an order",
+        "An order begins with its word in lower case, and a space behind it where more follows.",
+    )
+}
+
+/// A space that isn't one between two words.
+pub(crate) fn blank_words() -> Words {
+    say(
+        "this space is one too many",
+        "One space stands between two words, and none before the first or behind the last.",
+    )
+}
+
+/// What stands behind a whole order.
+pub(crate) fn much_words() -> Words {
+    say(
+        "is too much",
+        "Nothing stands behind this order. A path has no space: in a query it is written `+`.",
+    )
+}
+
+/// A line that ends before a part of its order.
+pub(crate) fn lost_words(part: OrderPart) -> Words {
+    match part {
+        OrderPart::Time => say(
+            "a time is missing here",
+            "A time is a whole number of microseconds.",
+        ),
+        OrderPart::Session => say(
+            "the number of a session is missing here",
+            "The sessions of a script have the numbers 1 to 1000.",
+        ),
+        OrderPart::Path => say(
+            "a path is missing here",
+            "A path is that of a page, such as `/products/1`.",
+        ),
+        OrderPart::Seen => seen_words(),
+    }
+}
+
+/// A number with a zero before it.
+pub(crate) fn zero_words() -> Words {
+    say(
+        "has a zero before it",
+        "Numbers are decimal, without a zero before them.",
+    )
+}
+
+/// What isn't the number of a session.
+pub(crate) fn session_words() -> Words {
+    say(
+        "isn't the number of a session",
+        "The sessions of a script have the numbers 1 to 1000.",
+    )
+}
+
+/// What is no time: digits that are too many, or other characters.
+pub(crate) fn number_words(is_number: bool) -> Words {
+    if is_number {
+        return say(
+            "is too late",
+            "A time is a number of microseconds, at most 18446744073709551615.",
+        );
+    }
+    say(
+        "isn't a time",
+        "A time is a whole number of microseconds, in decimal digits without a sign.",
+    )
+}
+
+/// What is no path.
+pub(crate) fn slash_words() -> Words {
+    say(
+        "isn't a path",
+        "A path begins with a slash, as `/products/1` does.",
+    )
+}
+
+/// What stands in the place of `seen`.
+pub(crate) fn seen_words() -> Words {
+    say(
+        "isn't `seen`",
+        "Behind the path of an `open` may stand `seen` and a moment, that of a page which the visitor has seen.",
+    )
+}
+
+/// What the changes of a commit are.
+const CHANGES: &str = "\
+The changes are a JSON array; each is one of {\"create\": MODEL, \"values\": {..}}, {\"update\": MODEL, \"id\": 1, \"values\": {..}},
+{\"destroy\": MODEL, \"id\": 1} and {\"touch\": MODEL, \"id\": 1}.";
+
+/// A `commit` without changes.
+pub(crate) fn no_changes_words() -> Words {
+    say("the changes are missing here", CHANGES)
+}
+
+/// Changes that are no array.
+pub(crate) fn list_words() -> Words {
+    say("this isn't an array", CHANGES)
+}
+
+/// An item that is no change.
+pub(crate) fn change_words() -> Words {
+    say("isn't a change", CHANGES)
+}
+
+/// The words that an order may begin with, each with the form of its order.
+pub(crate) const FORMS: [(&str, &str); 7] = [
+    ("now", "now MICROSECONDS"),
+    ("commit", "commit CHANGES"),
+    ("open", "open SESSION PATH"),
+    ("turn", "turn SESSION"),
+    ("run", "run SESSION"),
+    ("get", "get PATH"),
+    ("expire", "expire"),
+];
+
+/// The forms of orders, with what they do.
+pub(crate) const ORDERS: &str = "
+The orders are:
+  now MICROSECONDS               the clock shows this time
+  commit CHANGES                 these changes are made: commit [{\"touch\": \"product\", \"id\": 1}]
+  open SESSION PATH              a session begins with the page of a path
+  open SESSION PATH seen MOMENT  the same for a visitor who has seen the page of this moment
+  turn SESSION                   a session takes one turn
+  run SESSION                    a session takes turns until its page comes
+  get PATH                       the page of a path is rendered at once
+  expire                         a batch of old entries is removed";
+
+// ---- paths
 
 /// A path that no route has.
 pub(crate) fn path_words() -> Words {

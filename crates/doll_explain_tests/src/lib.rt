@@ -8,6 +8,8 @@ mod keeping;
 #[cfg(test)]
 mod places;
 #[cfg(test)]
+mod scripts;
+#[cfg(test)]
 mod templates;
 #[cfg(test)]
 mod texts;

@@ -1,7 +1,4 @@
-use Rattle.doll_bundle.specs.Sites.{Site, seen_site}
-use Rattle.doll_schema.specs.Models.{ModelList}
-use Rattle.doll_set.specs.Sets.{ReadSet}
-use Rattle.std.proofs.Common.{◌≡◌, ap, ◌∙◌}
+use Rattle.doll_bundle.specs.Sites.{seen_site}
 use Rattle.doll.proofs.Playing.{typed_replay}
 use Rattle.doll.proofs.Ready.{ready_of, same_site}
 use Rattle.doll.proofs.replaying.replay_reply.Goals as goal
