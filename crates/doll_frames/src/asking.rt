@@ -20,7 +20,7 @@ use crate::collection::item_asks;
 use crate::context::Context;
 use crate::flow::{Flow, ask_for, block_id};
 use crate::frame::{Frame, Kept};
-use crate::keys::block_key;
+use crate::keys::{block_key, prefix_at};
 use crate::output::Output;
 use crate::scope::Scope;
 use crate::stack::Stack;
@@ -29,7 +29,7 @@ use doll_erb::Key;
 use doll_eval::eval;
 use doll_expr::{Expr, Name};
 use doll_table::Rows;
-use doll_text::{Items, Memory};
+use doll_text::{Copied, Items, Memory};
 use std::alloc::Global;
 
 /// Writes the value of an expression, escaped unless it is written raw.
@@ -84,6 +84,7 @@ pub fn ask_block<R: Rows>(
     ensures frames { OnOk result (FramesLive (R.table rows.old) stack.new.frames) }
     ensures table { R.table rows.new ≡ R.table rows.old }
 {
+    let prefix = prefix_at(alloc, context.set, context.number)?;
     let key = block_key(
         alloc,
         context.set,
@@ -92,10 +93,12 @@ pub fn ask_block<R: Rows>(
         &scope.typing,
         key.as_slice(),
         &scope.vars,
+        prefix,
         rows,
     )?;
     let block = block_id(context.tree, context.number, block);
-    let ask = ask_for(alloc, &key, &scope.vars, block)?;
+    let vars = scope.vars.copy(alloc)?;
+    let ask = ask_for(alloc, &key, vars, block)?;
     stack.push(Frame::Asked { key })?;
     Ok(Flow::Read(ask))
 }

@@ -5,25 +5,30 @@ ghost use Rattle.std.specs.List.{list_all};
 ghost use Rattle.doll_table.specs.Fits.{Fits};
 ghost use Rattle.doll_table.specs.Tables.{row_of};
 ghost use Rattle.doll_lint.specs.Blocks.{item_key};
+ghost use Rattle.doll_run.specs.Keys.{prefix_at};
 ghost use Rattle.doll_frames.specs.Collections as spec;
 ghost use Rattle.doll_frames.specs.Walks as walks;
 
 use crate::flow::{Asks, ask_for, block_id};
 use crate::frame::KeptItem;
-use crate::keys::{BlockKey, block_key};
-use crate::scope::{Scope, alone};
+use crate::keys::{BlockKey, block_key, prefix_at};
+use crate::scope::{alone_typing, alone_vars};
 use crate::walk::Walk;
 use doll_erb::{Key, KeyPart};
 use doll_expr::{Expr, Name};
-use doll_schema::Schema;
+use doll_schema::{Schema, Vars};
 use doll_set::TemplateSet;
 use doll_table::Rows;
 use doll_text::{Copied, Items, Memory, Text};
-use doll_types::ValueType;
+use doll_types::{Typing, ValueType};
 use std::alloc::Global;
 
 /// The number of the block that each item of a cached collection is, behind those of all tags.
 pub const ITEM_BLOCK: u32 = 4_294_967_295;
+
+/// The room in bytes that an item's key text is given at once behind its prefix: a record and the word `collection` seldom take
+/// more. A text that needs more grows.
+const BEHIND_PREFIX: usize = 50;
 
 /// The items of a collection with their keys, and the questions for them.
 #[derive(Drop)]
@@ -57,6 +62,8 @@ pub fn item_asks<R: Rows>(
         set.now schema.now (R.table rows.old) partial name.now walk.now.of walk.now.model) walk.now.ids) }
 {
     let key = item_key(alloc, name)?;
+    let typing = alone_typing(alloc, name, walk.of)?;
+    let prefix = prefix_at(alloc, set, partial)?;
     let mut made = ItemAsks {
         items: Items::new(alloc),
         asks: Items::new(alloc),
@@ -72,6 +79,8 @@ pub fn item_asks<R: Rows>(
             walk,
             *id,
             key.as_slice(),
+            &typing,
+            prefix.as_slice(),
             rows,
             &mut made,
         )?;
@@ -91,6 +100,8 @@ fn add_item<R: Rows>(
     walk: &Walk,
     id: u32,
     key: &[KeyPart],
+    typing: &Typing,
+    prefix: &[u8],
     rows: &mut R,
     made: &mut ItemAsks,
 ) -> Result<(), Memory>
@@ -98,6 +109,8 @@ fn add_item<R: Rows>(
     requires fits { Fits schema.now (R.table rows.old) }
     requires living { IsSome (row_of (R.table rows.old) walk.now.model id) }
     requires key { key.now ≡ item_key name.now }
+    requires typing { typing.now ≡ (name.now, walk.now.of) ∷ [] }
+    requires prefix { prefix.now ≡ prefix_at set.now partial }
     ensures items { OnOk result (made.new.items ≡ made.old.items ++ spec.kept_item set.now
         schema.now (R.table rows.old) partial name.now walk.now.of walk.now.model id ∷ []) }
     ensures asks { OnOk result (made.new.asks ≡ made.old.asks ++ spec.item_ask set.now
@@ -108,9 +121,11 @@ fn add_item<R: Rows>(
     ensures looks { OnOk result (R.looks rows.new ≤ R.looks rows.old + spec.item_looks set.now
         schema.now (R.table rows.old) partial name.now walk.now.of walk.now.model id) }
 {
-    let own = alone(alloc, name, walk.of, walk.model, id)?;
-    let one = item_block_key(alloc, set, schema, partial, &own, key, rows)?;
-    let ask = ask_for(alloc, &one, &own.vars, block_id(tree, partial, ITEM_BLOCK))?;
+    let vars = alone_vars(alloc, name, walk.model, id)?;
+    let one = item_block_key(
+        alloc, set, schema, partial, typing, key, &vars, prefix, rows,
+    )?;
+    let ask = ask_for(alloc, &one, vars, block_id(tree, partial, ITEM_BLOCK))?;
     made.asks.push(ask)?;
     made.items.push(KeptItem { id, key: one })?;
     Ok(())
@@ -122,30 +137,26 @@ fn item_block_key<R: Rows>(
     set: &TemplateSet,
     schema: &Schema,
     partial: usize,
-    own: &Scope,
+    typing: &Typing,
     key: &[KeyPart],
+    vars: &Vars,
+    prefix: &[u8],
     rows: &mut R,
 ) -> Result<BlockKey, Memory>
     requires fits { Fits schema.now (R.table rows.old) }
-    requires living { spec.AreLiving (R.table rows.old) own.now.vars }
+    requires living { spec.AreLiving (R.table rows.old) vars.now }
+    requires prefix { prefix.now ≡ prefix_at set.now partial }
     ensures key { IfOk result (λ k. k ≡ spec.key_over set.now schema.now (R.table rows.old) partial
-        own.now.typing key.now own.now.vars) }
+        typing.now key.now vars.now) }
     ensures is_key { OnOk result (spec.is_key_over set.now schema.now (R.table rows.old) partial
-        own.now.typing key.now own.now.vars ≡ true) }
+        typing.now key.now vars.now ≡ true) }
     ensures table { R.table rows.new ≡ R.table rows.old }
     ensures looks { OnOk result (R.looks rows.new ≤ R.looks rows.old + spec.looks_over set.now
-        schema.now (R.table rows.old) partial own.now.typing key.now own.now.vars) }
+        schema.now (R.table rows.old) partial typing.now key.now vars.now) }
 {
-    block_key(
-        alloc,
-        set,
-        schema,
-        partial,
-        &own.typing,
-        key,
-        &own.vars,
-        rows,
-    )
+    let mut text = Vec::with_capacity(alloc, prefix.len().saturating_add(BEHIND_PREFIX))?;
+    text.extend_from_slice(prefix)?;
+    block_key(alloc, set, schema, partial, typing, key, vars, text, rows)
 }
 
 /// The key of an item: itself, and the word `collection`.

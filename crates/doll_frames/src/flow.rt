@@ -46,15 +46,15 @@ pub fn block_id(tree: u32, template: usize, block: u32) -> BlockId
     }
 }
 
-/// The question for a block with these variables.
-pub fn ask_for(alloc: Global, key: &BlockKey, vars: &Vars, block: BlockId) -> Result<Ask, Memory>
-    ensures { IfOk result (λ ask. ask ≡ spec.ask_for key.now vars.now block) }
+/// The question for a block with these variables, which are moved.
+pub fn ask_for(alloc: Global, key: &BlockKey, vars: Vars, block: BlockId) -> Result<Ask, Memory>
+    ensures { IfOk result (λ ask. ask ≡ spec.ask_for key.now vars block) }
 {
     Ok(Ask {
         key: key.text.copy(alloc)?,
         versions: key.versions.copy(alloc)?,
         block,
-        vars: vars.copy(alloc)?,
+        vars,
     })
 }
 

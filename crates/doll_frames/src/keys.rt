@@ -1,20 +1,22 @@
 //! The key of a cached block over a table.
 
-ghost use Rattle.std.specs.Prelude.{◌≡◌, ◌+◌, ◌≤◌, ◌^◌, ◌++◌, ◌∷◌, [], true, nat_lt, IfOk, OnOk, map, sum_by};
+ghost use Rattle.std.specs.Prelude.{◌≡◌, ◌+◌, ◌≤◌, ◌^◌, ◌++◌, List, true, nat_lt, IfOk, OnOk, map, sum_by};
 ghost use Rattle.std.specs.Int.Signed.{mag};
 ghost use Rattle.std.specs.List.{flat_map};
 ghost use Rattle.doll_table.specs.Fits.{Fits};
 ghost use Rattle.doll_eval.specs.Living.{AreLiving, IsLiving};
+ghost use Rattle.doll_key.specs.declared.components.Component.{Component};
+ghost use Rattle.doll_key.specs.Components.{component_behind, components_text};
 ghost use Rattle.doll_run.specs.Keys as spec;
 
 use doll_erb::KeyPart;
 use doll_eval::eval;
 use doll_expr::Expr;
-use doll_key::{Component, Components, KeyText, Versions, append_components, key_prefix};
+use doll_key::{KeyText, Versions, append_literal, append_record, append_scalar, key_prefix};
 use doll_schema::{Schema, Val, Value, Vars};
 use doll_set::TemplateSet;
 use doll_table::Rows;
-use doll_text::{Copied, Items, Memory, Name};
+use doll_text::{Copied, Memory};
 use doll_types::{TypeKind, Typing, ValueType, type_of};
 use std::alloc::Global;
 
@@ -34,8 +36,8 @@ impl Copied for BlockKey {
     }
 }
 
-/// The key of a block of the template with a number, by its parts, under types and values of variables. The variables must live
-/// in the table of `rows`, which must fit the schema.
+/// The key of a block of the template with a number, by its parts, under types and values of variables, behind a prefix that is
+/// the one of the template's keys. The variables must live in the table of `rows`, which must fit the schema.
 #[tactic(auto, unfolding(doll_run::specs::Keys::keyed_over))]
 pub fn block_key<R: Rows>(
     alloc: Global,
@@ -45,10 +47,12 @@ pub fn block_key<R: Rows>(
     typing: &Typing,
     key: &[KeyPart],
     vars: &Vars,
+    prefix: Vec<u8>,
     rows: &mut R,
 ) -> Result<BlockKey, Memory>
     requires fits { Fits schema.now (R.table rows.old) }
     requires living { AreLiving (R.table rows.old) vars.now }
+    requires prefix { prefix.items ≡ spec.prefix_at set.now number }
     ensures text { IfOk result (λ k. k.text ≡ (spec.keyed_over set.now schema.now
         (R.table rows.old) number typing.now key.now vars.now).text) }
     ensures versions { IfOk result (λ k. k.versions ≡ (spec.keyed_over set.now schema.now
@@ -59,7 +63,7 @@ pub fn block_key<R: Rows>(
     ensures looks { OnOk result (R.looks rows.new ≤ R.looks rows.old + (spec.keyed_over set.now
         schema.now (R.table rows.old) number typing.now key.now vars.now).looks) }
 {
-    let mut components = Items::new(alloc);
+    let mut text = prefix;
     let mut versions = Versions::new(alloc);
     for part in key {
         add_part(
@@ -69,32 +73,40 @@ pub fn block_key<R: Rows>(
             part,
             vars,
             rows,
-            &mut components,
+            &mut text,
             &mut versions,
         )?;
     }
-    let text = text_at(alloc, set, number, components.as_slice())?;
+    let text = text_at(alloc, set, number, text);
     Ok(BlockKey { text, versions })
 }
 
-/// The text of a key of the template with a number, by its components.
-fn text_at(
-    alloc: Global,
-    set: &TemplateSet,
-    number: usize,
-    components: &[Component],
-) -> Result<KeyText, Memory>
-    ensures { IfOk result (λ text. text ≡ spec.text_at set.now number components.now) }
+/// What stands before the components in the text of a key of the template with a number: it is the same for all of them.
+pub fn prefix_at(alloc: Global, set: &TemplateSet, number: usize) -> Result<Vec<u8>, Memory>
+    ensures { IfOk result (λ prefix. prefix.items ≡ spec.prefix_at set.now number) }
 {
     let Some(digest) = set.digest(number) else {
-        return Ok(KeyText::from_vec(Vec::new(alloc)));
+        return Ok(Vec::new(alloc));
     };
     let Some(template) = set.templates().get(number) else {
-        return Ok(KeyText::from_vec(Vec::new(alloc)));
+        return Ok(Vec::new(alloc));
     };
-    let mut out = key_prefix(alloc, template.name.as_bytes(), digest)?;
-    append_components(components, &mut out)?;
-    Ok(KeyText::from_vec(out))
+    key_prefix(alloc, template.name.as_bytes(), digest)
+}
+
+/// The text of a key of the template with a number, where these bytes are its prefix and its components.
+fn text_at(alloc: Global, set: &TemplateSet, number: usize, bytes: Vec<u8>) -> KeyText
+    ensures { (components : List Component)
+        → bytes.items ≡ spec.prefix_at set.now number ++ components_text components
+        → result ≡ spec.text_at set.now number components }
+{
+    if set.digest(number).is_none() {
+        return KeyText::from_vec(Vec::new(alloc));
+    }
+    if set.templates().get(number).is_none() {
+        return KeyText::from_vec(Vec::new(alloc));
+    }
+    KeyText::from_vec(bytes)
 }
 
 /// Appends what a part of a key is, and its version where it is a record.
@@ -105,13 +117,13 @@ fn add_part<R: Rows>(
     part: &KeyPart,
     vars: &Vars,
     rows: &mut R,
-    components: &mut Components,
+    text: &mut Vec<u8>,
     versions: &mut Versions,
 ) -> Result<(), Memory>
     requires fits { Fits schema.now (R.table rows.old) }
     requires living { AreLiving (R.table rows.old) vars.now }
-    ensures component { OnOk result (components.new ≡ components.old
-        ++ spec.part_component schema.now (R.table rows.old) typing.now vars.now part.now ∷ []) }
+    ensures component { OnOk result (text.new.items ≡ text.old.items ++ component_behind
+        (spec.part_component schema.now (R.table rows.old) typing.now vars.now part.now)) }
     ensures versions { OnOk result (versions.new ≡ versions.old
         ++ spec.part_versions schema.now (R.table rows.old) typing.now vars.now part.now) }
     ensures bounded { OnOk result (spec.is_bounded
@@ -121,33 +133,31 @@ fn add_part<R: Rows>(
         + spec.part_looks schema.now (R.table rows.old) typing.now vars.now part.now }
 {
     match part {
-        KeyPart::Literal(text) => {
-            tell_bytes(text.as_bytes());
-            components.push(Component::Literal(text.copy(alloc)?))?;
-            Ok(())
+        KeyPart::Literal(literal) => {
+            tell_bytes(literal.as_bytes());
+            append_literal(literal.as_bytes(), text)
         }
         KeyPart::Path(expr) => {
             let of = type_of(alloc, schema, typing, expr)?;
             let value = eval(alloc, expr, vars, schema, rows)?;
-            add_value(alloc, schema, of, value, rows, components, versions)
+            add_value(schema, of, value, rows, text, versions)
         }
     }
 }
 
 /// Appends a value by the type of its part, and its version where it is a record.
 fn add_value<R: Rows>(
-    alloc: Global,
     schema: &Schema,
     of: Result<ValueType, TypeKind>,
     value: Val,
     rows: &mut R,
-    components: &mut Components,
+    text: &mut Vec<u8>,
     versions: &mut Versions,
 ) -> Result<(), Memory>
     requires fits { Fits schema.now (R.table rows.old) }
     requires living { IsLiving (R.table rows.old) value }
-    ensures component { OnOk result
-        (components.new ≡ components.old ++ spec.component_by schema.now of value ∷ []) }
+    ensures component { OnOk result (text.new.items
+        ≡ text.old.items ++ component_behind (spec.component_by schema.now of value)) }
     ensures versions { OnOk result
         (versions.new ≡ versions.old ++ spec.versions_by (R.table rows.old) of value) }
     ensures bounded { OnOk result (spec.is_bounded (spec.component_by schema.now of value) ≡ true) }
@@ -156,28 +166,26 @@ fn add_value<R: Rows>(
 {
     match of {
         Ok(ValueType::Record { model }) => {
-            let plural = plural_of(alloc, schema, model)?;
+            let plural = plural_of(schema, model);
             let id = id_of(&value);
             versions.push(version_of(rows, schema, &value))?;
-            components.push(Component::Record { plural, id })?;
-            Ok(())
+            append_record(plural, id, text)
         }
         _ => {
             let single = single_of(value);
             tell_value(&single);
-            components.push(Component::Scalar(single))?;
-            Ok(())
+            append_scalar(&single, text)
         }
     }
 }
 
 /// The plural of the model with a number.
-fn plural_of(alloc: Global, schema: &Schema, model: u16) -> Result<Name, Memory>
-    ensures { IfOk result (λ plural. plural ≡ spec.plural_of schema.now model) }
+fn plural_of(schema: &Schema, model: u16) -> &[u8]
+    ensures { result.now ≡ spec.plural_of schema.now model }
 {
     match schema.model(model) {
-        Some(of) => of.plural.copy(alloc),
-        None => Ok(Name::from_vec(Vec::new(alloc))),
+        Some(of) => of.plural.as_bytes(),
+        None => &[],
     }
 }
 

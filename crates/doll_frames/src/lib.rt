@@ -20,7 +20,7 @@ pub use collection::{ITEM_BLOCK, ItemAsks, item_asks};
 pub use context::Context;
 pub use flow::{Asks, Flow, ask_for, block_id, fresh_of};
 pub use frame::{Frame, Kept, KeptItem};
-pub use keys::{BlockKey, block_key};
+pub use keys::{BlockKey, block_key, prefix_at};
 pub use opening::route_scope;
 pub use output::Output;
 pub use scope::{Scope, alone, bind, locals_scope, unbind};

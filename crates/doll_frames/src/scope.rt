@@ -65,12 +65,27 @@ pub fn alone(
     ensures typing { IfOk result (λ scope. scope.typing ≡ (name.now, of) ∷ []) }
     ensures vars { IfOk result (λ scope. scope.vars ≡ (name.now, Val.Record model id) ∷ []) }
 {
-    let mut scope = Scope {
-        typing: Items::new(alloc),
-        vars: Items::new(alloc),
-    };
-    bind(alloc, name, of, model, id, &mut scope)?;
-    Ok(scope)
+    let typing = alone_typing(alloc, name, of)?;
+    let vars = alone_vars(alloc, name, model, id)?;
+    Ok(Scope { typing, vars })
+}
+
+/// A type under a name, alone.
+pub fn alone_typing(alloc: Global, name: &Name, of: ValueType) -> Result<Typing, Memory>
+    ensures { IfOk result (λ typing. typing ≡ (name.now, of) ∷ []) }
+{
+    let mut typing: Typing = Items::new(alloc);
+    typing.push((name.copy(alloc)?, of))?;
+    Ok(typing)
+}
+
+/// A record under a name, alone.
+pub fn alone_vars(alloc: Global, name: &Name, model: u16, id: u32) -> Result<Vars, Memory>
+    ensures { IfOk result (λ vars. vars ≡ (name.now, Val.Record model id) ∷ []) }
+{
+    let mut vars: Vars = Items::new(alloc);
+    vars.push((name.copy(alloc)?, Val::Record { model, id }))?;
+    Ok(vars)
 }
 
 /// The variables that a partial is rendered with; none where one of them has no type.

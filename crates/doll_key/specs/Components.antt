@@ -38,6 +38,10 @@ component_text (component.Record plural id) = record_text plural id
 component_text (component.Literal text) = COLON ∷ escaped text
 component_text (component.Scalar value) = EQUALS ∷ value_text value
 
+-- a component behind a slash
+abbrev pub component_behind : Component → List ℕ
+component_behind component = SLASH ∷ component_text component
+
 -- components, each behind a slash
 abbrev pub components_text : List Component → List ℕ
-components_text components = flat_map (λ component. SLASH ∷ component_text component) components
+components_text components = flat_map component_behind components

@@ -49,31 +49,28 @@ pub fn append_components(components: &[Component], out: &mut Vec<u8>) -> Result<
     ensures { OnOk result (out.new.items ≡ out.old.items ++ spec.components_text components.now) }
 {
     for component in components {
-        out.push(SLASH)?;
         append_component(component, out)?;
     }
     Ok(())
 }
 
 fn append_component(component: &Component, out: &mut Vec<u8>) -> Result<(), Memory>
-    ensures { OnOk result (out.new.items ≡ out.old.items ++ spec.component_text component.now) }
+    ensures { OnOk result (out.new.items
+        ≡ out.old.items ++ spec.component_behind component.now) }
 {
     match component {
         Component::Record { plural, id } => append_record(plural.as_bytes(), *id, out),
-        Component::Literal(text) => {
-            out.push(COLON)?;
-            append_escaped(text.as_bytes(), out)
-        }
-        Component::Scalar(value) => {
-            out.push(EQUALS)?;
-            append_value(value, out)
-        }
+        Component::Literal(text) => append_literal(text.as_bytes(), out),
+        Component::Scalar(value) => append_scalar(value, out),
     }
 }
 
-fn append_record(plural: &[u8], id: Option<u32>, out: &mut Vec<u8>) -> Result<(), Memory>
-    ensures { OnOk result (out.new.items ≡ out.old.items ++ spec.record_text plural.now id) }
+/// Appends the text of a record behind a slash. After a refusal some of it may stand there.
+pub fn append_record(plural: &[u8], id: Option<u32>, out: &mut Vec<u8>) -> Result<(), Memory>
+    ensures { OnOk result (out.new.items
+        ≡ out.old.items ++ spec.component_behind (Component.Record plural.now id)) }
 {
+    out.push(SLASH)?;
     out.extend_from_slice(plural)?;
     out.push(SLASH)?;
     match id {
@@ -84,6 +81,26 @@ fn append_record(plural: &[u8], id: Option<u32>, out: &mut Vec<u8>) -> Result<()
         None => out.extend_from_slice(b"nil")?,
     }
     Ok(())
+}
+
+/// Appends the text of a literal behind a slash. After a refusal some of it may stand there.
+pub fn append_literal(text: &[u8], out: &mut Vec<u8>) -> Result<(), Memory>
+    ensures { OnOk result (out.new.items
+        ≡ out.old.items ++ spec.component_behind (Component.Literal text.now)) }
+{
+    out.push(SLASH)?;
+    out.push(COLON)?;
+    append_escaped(text, out)
+}
+
+/// Appends the text of a value behind a slash. After a refusal some of it may stand there.
+pub fn append_scalar(value: &Value, out: &mut Vec<u8>) -> Result<(), Memory>
+    ensures { OnOk result (out.new.items
+        ≡ out.old.items ++ spec.component_behind (Component.Scalar value.now)) }
+{
+    out.push(SLASH)?;
+    out.push(EQUALS)?;
+    append_value(value, out)
 }
 
 fn append_value(value: &Value, out: &mut Vec<u8>) -> Result<(), Memory>

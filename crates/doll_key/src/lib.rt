@@ -7,7 +7,9 @@ pub mod parts;
 mod reading;
 pub mod texts;
 
-pub use components::{Component, Components, append_components};
+pub use components::{
+    Component, Components, append_components, append_literal, append_record, append_scalar,
+};
 pub use parts::{KeyParts, key_prefix, key_text, one_key};
 pub use reading::read_key;
 pub use texts::{KeyText, Versions};

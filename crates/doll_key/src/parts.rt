@@ -39,11 +39,16 @@ pub fn key_text(alloc: Global, parts: &KeyParts) -> Result<KeyText, Memory>
     Ok(KeyText::from_vec(out))
 }
 
+/// The room in bytes that a key's text is given at once behind its path: what stands before the components takes 39 of
+/// it, and a record or two seldom more than what is left. A text that needs more grows.
+pub const BEHIND_PATH: usize = 90;
+
 /// What stands before the components in the text of a key: it is the same for all keys of a template, so it can be made once.
 pub fn key_prefix(alloc: Global, path: &[u8], digest: Digest) -> Result<Vec<u8>, Memory>
     ensures { IfOk result (λ prefix. prefix.items ≡ spec.key_prefix path.now digest) }
 {
-    let mut out = Vec::from_slice(alloc, b"views/")?;
+    let mut out = Vec::with_capacity(alloc, path.len().saturating_add(BEHIND_PATH))?;
+    out.extend_from_slice(b"views/")?;
     out.extend_from_slice(path)?;
     out.push(COLON)?;
     digest.write_hex(&mut out)?;

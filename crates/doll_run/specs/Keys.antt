@@ -26,7 +26,7 @@ use Rattle.doll_types.specs.Types.{Typing, type_of}
 use Rattle.doll_key.specs.declared.components.Component.{Component}
 use Rattle.doll_key.specs.declared.components.Component.TheVariants as component
 use Rattle.doll_key.specs.declared.parts.KeyParts.{KeyParts}
-use Rattle.doll_key.specs.Keys.{key_text}
+use Rattle.doll_key.specs.Keys.{key_prefix, key_text}
 use Rattle.doll_run.specs.Rendering.{Keyed}
 
 -- ---- parts
@@ -129,6 +129,12 @@ versions_at schema table typing key vars = flat_map (part_versions schema table 
 -- the looks that making a key may take
 abbrev pub looks_at : ModelList → TableMap → Typing → List KeyPart → Variables → ℕ
 looks_at schema table typing key vars = sum_by (part_looks schema table typing vars) key
+
+-- what stands before the components in the text of a key of the template with a number: its path and its digest; nothing where there is no such template
+abbrev pub prefix_at : ReadSet → ℕ → List ℕ
+prefix_at set number =
+    option_map_or (λ digest. option_map_or (λ (template : Template). key_prefix template.name digest) (slice_get set.templates number) [])
+    (slice_get set.digests number) []
 
 -- the text of a key of the template with a number: its path and its digest, then the parts; nothing where there is no such template
 abbrev pub text_at : ReadSet → ℕ → List Component → List ℕ

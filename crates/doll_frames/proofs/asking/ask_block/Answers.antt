@@ -13,7 +13,7 @@ returns-clause-goes g c = λ body.
     (search rules)
     (search rules)
     (search rules)
-    (c.in_ok-ask.ensures ∙ ap (ask_for c.in_ok-key.key c.args.scope.now.vars) c.block_id-block.ensures)
+    (c.in_ok-ask.ensures ∙ ap (λ v. ask_for c.in_ok-key.key v c.block_id-block.result) c.in_ok-vars.ensures ∙ ap (ask_for c.in_ok-key.key c.args.scope.now.vars) c.block_id-block.ensures)
     (c.in_ok-push.ensures.frames ∙ ap (λ fs. frame.Asked c.in_ok-key.key ∷ fs) c.requires.begins)
     (search rules)
 
