@@ -1,6 +1,6 @@
 //! Clocks.
 
-ghost use Rattle.std.specs.Prelude.{◌≡◌, ◌∷◌, [], ℕ, List, Option};
+ghost use Rattle.std.specs.Prelude.{◌∷◌, [], ℕ, List, Option};
 ghost use Rattle.doll_base.specs.Streams.{Appended};
 
 /// Tells the time.

@@ -1,6 +1,6 @@
 //! Counts of faults, and plans of which calls fail.
 
-ghost use Rattle.std.specs.Prelude.{◌≡◌, ◌+◌, ℕ, List};
+ghost use Rattle.std.specs.Prelude.{◌≡◌, ◌+◌, ℕ};
 ghost use Rattle.doll_base.specs.Faults.{Plan, fresh_plan, is_due, after_call};
 
 use http_server::Log;

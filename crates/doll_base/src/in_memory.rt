@@ -4,7 +4,6 @@
 ghost use Rattle.std.specs.Prelude.{◌≡◌, ◌<◌, ◌≤◌, ◌↔◌, ◌∷◌, ◌++◌, [], length, take, min, Some, None, IfOk, OnOk, OnErr, IsErr, IsErrOf, IsTrue, option_map, vec_len};
 ghost use Rattle.doll_base.specs.Faults.{Rose, KeepsCount, HasCause, fresh_plan, is_due, after_call, after_failure};
 ghost use Rattle.doll_base.specs.Folders.{file_named, file_up_to, GivesFile, named_files};
-ghost use Rattle.doll_base.specs.Streams.{Took, IsAtEnd, Appended};
 ghost use Rattle.doll_base.specs.Memories.{given_count};
 ghost use Rattle.doll_base.specs.declared.folder.FolderFault.TheVariants.{Failed};
 ghost use Rattle.doll_base.specs.Readings.{reading_at};

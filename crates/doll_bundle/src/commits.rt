@@ -1,6 +1,6 @@
 //! The history that the commits of a bundle make, and the records that it leaves.
 
-ghost use Rattle.std.specs.Prelude.{◌≡◌, [], length, IfOk, IfSome};
+ghost use Rattle.std.specs.Prelude.{◌≡◌, [], IfOk, IfSome};
 ghost use Rattle.serde_json.specs.View.{items_view, view};
 ghost use Rattle.doll_text.specs.Gives.{GivesBy};
 ghost use Rattle.doll_keep.specs.Calls.{IsFaultless};

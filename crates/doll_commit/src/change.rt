@@ -15,7 +15,7 @@ use crate::rows::{blank_row, lacks, row_after};
 use doll_journal::Change;
 use doll_schema::{Model, Row, Schema, Value};
 use doll_table::Table;
-use doll_text::{Memory, Name};
+use doll_text::Name;
 use std::alloc::Global;
 
 /// The number of the model that has a name.

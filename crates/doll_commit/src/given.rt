@@ -1,9 +1,8 @@
 //! The values that a change gives to attributes and foreign keys.
 
-ghost use Rattle.std.specs.Prelude.{◌≡◌, ℕ, List, bytes_eq, is_some, false, reverse, find, if◌then◌else◌};
-ghost use Rattle.std.specs.Option.{option_copied, option_map_or};
+ghost use Rattle.std.specs.Prelude.{◌≡◌, ℕ, List, bytes_eq, is_some, reverse, find};
+ghost use Rattle.std.specs.Option.{option_copied};
 ghost use Rattle.doll_schema.specs.declared.value.Value.{Value};
-ghost use Rattle.doll_table.specs.Tables.{row_of};
 ghost use Rattle.doll_commit.specs.Given as spec;
 ghost use Rattle.doll_schema.specs.Lookups.{key_name};
 

@@ -1,6 +1,6 @@
 //! Records in the order found, each once, with a set beside them so that a look for one is short.
 
-ghost use Rattle.std.specs.Prelude.{◌≡◌, ◌<◌, ◌^◌, [], IfOk, OnOk, OnErr, length, slice_get, is_some};
+ghost use Rattle.std.specs.Prelude.{◌≡◌, ◌<◌, ◌^◌, [], OnOk, OnErr, length, slice_get, is_some};
 ghost use Rattle.std.specs.List.{IsDistinct};
 ghost use Rattle.doll_table.specs.Tables.{row_of};
 ghost use Rattle.doll_commit.specs.Refs.{has, is_ref, with_ref, with_refs};

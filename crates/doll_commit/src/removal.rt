@@ -1,10 +1,10 @@
 //! What goes with a record that is destroyed, and when it may not go.
 
-ghost use Rattle.std.specs.Prelude.{◌≡◌, ◌==◌, ◌<◌, ◌≤◌, not, true, List, ℕ, [], map, length, is_some, IfOk, OnOk, if◌then◌else◌};
-ghost use Rattle.std.specs.List.{list_any, flat_map, enumerate_from};
+ghost use Rattle.std.specs.Prelude.{◌≡◌, ◌==◌, ◌<◌, ◌≤◌, true, ℕ, map, length, IfOk, OnOk};
+ghost use Rattle.std.specs.List.{flat_map, enumerate_from};
 ghost use Rattle.doll_schema.specs.declared.model.BelongsTo.{BelongsTo};
 ghost use Rattle.doll_schema.specs.declared.limits.TheConstants.{MOST_PARENTS};
-ghost use Rattle.doll_table.specs.Tables.{ids_under, without_rows};
+ghost use Rattle.doll_table.specs.Tables.{without_rows};
 ghost use Rattle.doll_commit.specs.Refs.{has, with_refs};
 ghost use Rattle.doll_commit.specs.Removed as spec;
 

@@ -1,8 +1,7 @@
 //! The rows that creations and updates leave.
 
-ghost use Rattle.std.specs.Prelude.{◌≡◌, ◌||◌, List, ℕ, map, zip, IfOk, MatchResult};
+ghost use Rattle.std.specs.Prelude.{◌≡◌, ◌||◌, map, zip, IfOk, MatchResult};
 ghost use Rattle.std.specs.List.{list_any};
-ghost use Rattle.std.specs.Option.{option_copied, option_map_or};
 ghost use Rattle.doll_schema.specs.declared.value.Value.{Value};
 ghost use Rattle.doll_commit.specs.Given.{value_given, key_of};
 ghost use Rattle.doll_commit.specs.Rows as spec;

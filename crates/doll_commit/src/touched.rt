@@ -1,10 +1,10 @@
 //! The records that a commit touches, and the moment that they get.
 
-ghost use Rattle.std.specs.Prelude.{◌≡◌, [], length, IfOk, OnOk};
+ghost use Rattle.std.specs.Prelude.{◌≡◌, length, IfOk, OnOk};
 ghost use Rattle.std.specs.List.{flat_map};
 ghost use Rattle.doll_table.specs.Fits.{Fits};
 ghost use Rattle.doll_commit.specs.Refs.{with_refs};
-ghost use Rattle.doll_commit.specs.Commits.{touched_by, row_touches, touch_parents, touched_set, stamped_at, stamped, applied_of};
+ghost use Rattle.doll_commit.specs.Commits.{touched_by, row_touches, touch_parents, stamped_at, stamped, applied_of};
 
 use crate::apply::Applied;
 use crate::refs::{Ref, Refs};

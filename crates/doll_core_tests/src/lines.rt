@@ -1,6 +1,6 @@
 //! One line for each form of an outcome.
 
-ghost use Rattle.std.specs.Prelude.{IsSome, IfOk};
+ghost use Rattle.std.specs.Prelude.{IsSome};
 ghost use Rattle.doll_report.specs.Lines.{line_of};
 
 use doll_commit::Why;

@@ -1,6 +1,6 @@
 //! The keys of cached blocks.
 
-ghost use Rattle.std.specs.Prelude.{◌≡◌, ◌∷◌, [], length, Ok};
+ghost use Rattle.std.specs.Prelude.{◌∷◌, [], Ok};
 ghost use Rattle.doll_text.specs.Gives.{Gives, GivesExactly};
 ghost use Rattle.doll_expr.specs.Reading.{first_kind};
 ghost use Rattle.doll_erb.specs.Shapes as shapes;

@@ -1,6 +1,6 @@
 //! Cutting a template into texts and tags.
 
-ghost use Rattle.std.specs.Prelude.{◌≡◌, ◌<◌, ◌≤◌, ◌+◌, ◌^◌, length, IfOk, IfSome, Ok, slice_index};
+ghost use Rattle.std.specs.Prelude.{◌≡◌, ◌<◌, ◌≤◌, ◌+◌, ◌^◌, length, IfOk, IfSome, Ok};
 ghost use Rattle.doll_text.specs.Gives.{Gives};
 ghost use Rattle.doll_erb.specs.Cuts.{cut_of, Tiles};
 ghost use Rattle.doll_erb.specs.Pieces.{begins_with, place_of, line_end, kind_of, mark_len, trims, tag_piece, text_piece, opened_piece, piece_at, IsInside};

@@ -1,8 +1,7 @@
 //! The tags that render partials.
 
-ghost use Rattle.std.specs.Prelude.{◌≡◌, Ok};
+ghost use Rattle.std.specs.Prelude.{Ok};
 ghost use Rattle.doll_text.specs.Gives.{Gives};
-ghost use Rattle.doll_erb.specs.Shapes as shapes;
 ghost use Rattle.doll_erb.specs.Tags as spec;
 
 use crate::mark::{is_end, mark_at, name_at, new_name_at, partial_at, value_at, word_at};

@@ -1,6 +1,6 @@
 //! What the content of a tag says.
 
-ghost use Rattle.std.specs.Prelude.{◌≡◌, ◌≤◌, length, Ok};
+ghost use Rattle.std.specs.Prelude.{◌≤◌, length, Ok};
 ghost use Rattle.doll_text.specs.Gives.{Gives, GivesExactly};
 ghost use Rattle.doll_erb.specs.Shapes as shapes;
 ghost use Rattle.doll_erb.specs.Tags as spec;

@@ -1,7 +1,7 @@
 //! Reading a template into its tree.
 
-ghost use Rattle.std.specs.Prelude.{◌≡◌, ◌≤◌, ◌<◌, ◌+◌, ◌^◌, ◌∷◌, ◌++◌, [], List, length, reverse, IfOk, OnOk, MatchOption, Ok};
-ghost use Rattle.doll_text.specs.Gives.{Gives, GivesBy, GivesExactly};
+ghost use Rattle.std.specs.Prelude.{◌≡◌, ◌≤◌, ◌<◌, ◌+◌, ◌^◌, ◌∷◌, [], length, reverse, IfOk, OnOk, MatchOption, Ok};
+ghost use Rattle.doll_text.specs.Gives.{Gives};
 ghost use Rattle.doll_erb.specs.declared.node.ErbFault.TheVariants.{Memory};
 ghost use Rattle.doll_erb.specs.declared.node.Node.{Node};
 ghost use Rattle.doll_erb.specs.Grammar.{IsTemplate, GivesEachTree, OneTree};
@@ -11,7 +11,7 @@ ghost use Rattle.doll_erb.specs.Trees as spec;
 ghost use Rattle.doll_erb.specs.Readings.{state_of, GivesState, Holds, TakesInnermost};
 
 use crate::frame::Frame;
-use crate::node::{Arm, Arms, ErbFault, Node, Tree};
+use crate::node::{Arm, ErbFault, Node, Tree};
 use crate::piece::{Tag, TagKind, cut};
 use crate::role::{Closing, Opening, Role};
 use crate::tag::role_of;

@@ -1,6 +1,6 @@
 //! A step from a record to what it has.
 
-ghost use Rattle.std.specs.Prelude.{◌≡◌, ◌+◌, ◌≤◌, ◌<◌, ℕ, pos, length, slice_get, IfOk, IsSome};
+ghost use Rattle.std.specs.Prelude.{◌≡◌, ◌+◌, ◌≤◌, ◌<◌, pos, length, slice_get, IfOk, IsSome};
 ghost use Rattle.std.specs.Option.{option_map_or};
 ghost use Rattle.doll_schema.specs.declared.value.Row.{Row};
 ghost use Rattle.doll_schema.specs.declared.value.Value.{Value};

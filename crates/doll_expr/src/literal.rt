@@ -1,6 +1,6 @@
 //! Numbers and texts as they are written.
 
-ghost use Rattle.std.specs.Prelude.{◌≡◌, ◌≢◌, slice_index, false, ◌+◌, ◌<◌, ◌≤◌, ◌^◌, pos, nat_lt, length, Some, None, IfOk, IfSome, if◌then◌else◌};
+ghost use Rattle.std.specs.Prelude.{◌≡◌, ◌≢◌, slice_index, false, ◌+◌, ◌<◌, ◌^◌, pos, nat_lt, length, Some, None, IfOk, IfSome, if◌then◌else◌};
 ghost use Rattle.doll_text.specs.Gives.{Gives};
 ghost use Rattle.doll_expr.specs.Tokens as spec;
 

@@ -1,6 +1,6 @@
 //! Reads a text as an expression.
 
-ghost use Rattle.std.specs.Prelude.{◌≡◌, ◌≤◌, length, Ok, IfOk};
+ghost use Rattle.std.specs.Prelude.{◌≤◌, length, Ok, IfOk};
 ghost use Rattle.doll_expr.specs.declared.expr.Expr.{Expr};
 ghost use Rattle.doll_expr.specs.Faults.{Faults};
 ghost use Rattle.doll_text.specs.Gives.{Gives};

@@ -1,6 +1,6 @@
 //! Steps of a rendering that take no part in its recursion: writing a value, and asking.
 
-ghost use Rattle.std.specs.Prelude.{◌≡◌, ◌≤◌, ◌<◌, ◌+◌, ◌^◌, ◌++◌, ◌∷◌, [], ℕ, Bool, List, IfOk, OnOk};
+ghost use Rattle.std.specs.Prelude.{◌≡◌, ◌≤◌, ◌<◌, ◌+◌, ◌^◌, ◌++◌, [], ℕ, Bool, List, IfOk, OnOk};
 ghost use Rattle.doll_erb.specs.declared.node.Node.{Node};
 ghost use Rattle.doll_expr.specs.declared.expr.Expr.{Expr};
 ghost use Rattle.doll_table.specs.Fits.{Fits};

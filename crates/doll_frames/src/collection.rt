@@ -20,7 +20,7 @@ use doll_schema::{Schema, Vars};
 use doll_set::TemplateSet;
 use doll_table::Rows;
 use doll_text::{Copied, Items, Memory, Text};
-use doll_types::{Typing, ValueType};
+use doll_types::Typing;
 use std::alloc::Global;
 
 /// The number of the block that each item of a cached collection is, behind those of all tags.

@@ -1,10 +1,10 @@
 //! How far a rendering came: to its end, or to a call of the cache.
 
-ghost use Rattle.std.specs.Prelude.{◌≡◌, ◌<◌, ◌^◌, Bool, IfOk};
+ghost use Rattle.std.specs.Prelude.{◌≡◌, ◌<◌, ◌^◌, IfOk};
 ghost use Rattle.doll_frames.specs.Flows as spec;
 
 use crate::keys::BlockKey;
-use doll_entry::{Ask, BlockId, Fragment, Fresh};
+use doll_entry::{Ask, BlockId, Fresh};
 use doll_schema::Vars;
 use doll_text::{Bytes, Copied, Items, Memory, Shared};
 use std::alloc::Global;

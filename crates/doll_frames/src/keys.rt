@@ -1,8 +1,7 @@
 //! The key of a cached block over a table.
 
-ghost use Rattle.std.specs.Prelude.{◌≡◌, ◌+◌, ◌≤◌, ◌^◌, ◌++◌, List, true, nat_lt, IfOk, OnOk, map, sum_by};
+ghost use Rattle.std.specs.Prelude.{◌≡◌, ◌+◌, ◌≤◌, ◌^◌, ◌++◌, List, true, nat_lt, IfOk, OnOk};
 ghost use Rattle.std.specs.Int.Signed.{mag};
-ghost use Rattle.std.specs.List.{flat_map};
 ghost use Rattle.doll_table.specs.Fits.{Fits};
 ghost use Rattle.doll_eval.specs.Living.{AreLiving, IsLiving};
 ghost use Rattle.doll_key.specs.declared.components.Component.{Component};
@@ -11,7 +10,6 @@ ghost use Rattle.doll_run.specs.Keys as spec;
 
 use doll_erb::KeyPart;
 use doll_eval::eval;
-use doll_expr::Expr;
 use doll_key::{KeyText, Versions, append_literal, append_record, append_scalar, key_prefix};
 use doll_schema::{Schema, Val, Value, Vars};
 use doll_set::TemplateSet;

@@ -1,15 +1,15 @@
 //! The variables of a part of a template, with their types and values.
 
-ghost use Rattle.std.specs.Prelude.{◌≡◌, ◌+◌, ◌≤◌, ◌++◌, ◌∷◌, ◌-◌, [], IfOk, OnOk, IfSome, length, take, map, sum_by};
+ghost use Rattle.std.specs.Prelude.{◌≡◌, ◌+◌, ◌≤◌, ◌++◌, ◌∷◌, ◌-◌, [], IfOk, OnOk, IfSome, length, take, map};
 ghost use Rattle.doll_erb.specs.declared.node.Local.{Local};
 ghost use Rattle.doll_table.specs.Fits.{Fits};
 ghost use Rattle.doll_eval.specs.Living.{AreLiving};
-ghost use Rattle.doll_eval.specs.Values.{value_of, looks_of};
+ghost use Rattle.doll_eval.specs.Values.{value_of};
 ghost use Rattle.doll_frames.specs.Scopes as spec;
 
 use doll_erb::Local;
 use doll_eval::eval;
-use doll_expr::{Expr, Name};
+use doll_expr::Name;
 use doll_schema::{Schema, Val, Vars};
 use doll_table::Rows;
 use doll_text::{Copied, Items, Memory};

@@ -1,6 +1,6 @@
 //! What is kept of a rendering that stopped.
 
-ghost use Rattle.std.specs.Prelude.{◌≡◌, ◌∷◌, ◌++◌, [], None, reverse, OnOk, IfSome};
+ghost use Rattle.std.specs.Prelude.{◌≡◌, ◌∷◌, [], None, reverse, OnOk, IfSome};
 ghost use Rattle.doll_frames.specs.Stacks as spec;
 
 use crate::frame::{Frame, Kept};

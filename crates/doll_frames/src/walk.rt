@@ -2,7 +2,7 @@
 
 ghost use Rattle.std.specs.Prelude.{◌≡◌, ◌+◌, ◌≤◌, IfOk, OnOk, IfSome};
 ghost use Rattle.doll_table.specs.Fits.{Fits};
-ghost use Rattle.doll_eval.specs.Living.{AreLiving, IsLiving};
+ghost use Rattle.doll_eval.specs.Living.{AreLiving};
 ghost use Rattle.doll_eval.specs.Values.{looks_of};
 ghost use Rattle.doll_frames.specs.Walks as spec;
 

@@ -1,6 +1,6 @@
 //! Things that lead back to themselves.
 
-ghost use Rattle.std.specs.Prelude.{◌≡◌, ◌<◌, ◌^◌, true, length, slice_set, IfOk, option_map, unwrap_or};
+ghost use Rattle.std.specs.Prelude.{◌≡◌, ◌<◌, ◌^◌, true, length, slice_set, IfOk, unwrap_or};
 ghost use Rattle.std.specs.List.{find};
 ghost use Rattle.doll_graph.specs.Graphs as spec;
 

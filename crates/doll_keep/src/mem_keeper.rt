@@ -4,7 +4,7 @@ ghost use Rattle.std.specs.Prelude.{◌≡◌, ◌∷◌, ◌++◌, [], Some, If
 ghost use Rattle.doll_base.specs.Faults.{KeepsCount, HasCause, fresh_plan};
 ghost use Rattle.doll_keep.specs.Kept.{GivesItem, contents, has_failed};
 ghost use Rattle.doll_keep.specs.Calls.{Load, Append, MemCalled, NeverFails};
-ghost use Rattle.doll_keep.specs.declared.keeper.KeepFault.TheVariants.{Failed, Memory};
+ghost use Rattle.doll_keep.specs.declared.keeper.KeepFault.TheVariants.{Failed};
 
 use crate::keeper::{KeepFault, Keeper};
 use doll_base::FaultPlan;

@@ -1,6 +1,6 @@
 //! Keys.
 
-ghost use Rattle.std.specs.Prelude.{◌≡◌, ◌++◌, IfOk};
+ghost use Rattle.std.specs.Prelude.{◌≡◌, IfOk};
 ghost use Rattle.doll_key.specs.Keys as spec;
 ghost use Rattle.doll_key.specs.Uniqueness.{OneKey};
 

@@ -1,6 +1,6 @@
 //! Reading the text of a key.
 
-ghost use Rattle.std.specs.Prelude.{◌≡◌, ◌≢◌, ◌<◌, ◌≤◌, ◌^◌, ◌∷◌, length, option_map, slice_index, IfOk, IfSome};
+ghost use Rattle.std.specs.Prelude.{◌≢◌, ◌<◌, ◌≤◌, ◌^◌, ◌∷◌, length, option_map, slice_index, IfOk, IfSome};
 ghost use Rattle.std.specs.Fmt.{decimal, signed_decimal};
 ghost use Rattle.std.specs.Int.Signed.{mag};
 ghost use Rattle.doll_digest.specs.Framing.{IsDigest};

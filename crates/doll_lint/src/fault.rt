@@ -1,6 +1,6 @@
 //! What a lint refuses, and how a fault names a path.
 
-ghost use Rattle.std.specs.Prelude.{◌≡◌, ◌++◌, ◌∷◌, [], IfOk, OnOk};
+ghost use Rattle.std.specs.Prelude.{◌≡◌, ◌++◌, [], IfOk, OnOk};
 ghost use Rattle.doll_lint.specs.Faults as spec;
 
 use crate::path::{Path, PathStep, covers, many_of};

@@ -1,6 +1,6 @@
 //! What a lint finds in all that pages reach.
 
-ghost use Rattle.std.specs.Prelude.{◌≡◌, List, IfOk, OnOk};
+ghost use Rattle.std.specs.Prelude.{List, IfOk, OnOk};
 ghost use Rattle.doll_route.specs.declared.route.Route.{Route};
 ghost use Rattle.doll_types.specs.Reached.{AreReached};
 ghost use Rattle.doll_lint.specs.Faults.{AreLintFaults};

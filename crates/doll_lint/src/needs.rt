@@ -1,6 +1,6 @@
 //! What a body needs of the key that it is kept under.
 
-ghost use Rattle.std.specs.Prelude.{◌≡◌, ◌++◌, ◌∷◌, ◌-◌, [], List, ℕ, IfOk, OnOk, Some, length, map, take};
+ghost use Rattle.std.specs.Prelude.{◌≡◌, ◌++◌, ◌-◌, IfOk, OnOk, Some};
 ghost use Rattle.std.specs.List.{flat_map};
 ghost use Rattle.doll_set.specs.Dependencies.{names_of, partial_of};
 ghost use Rattle.doll_set.specs.Digests.{name_at};

@@ -1,6 +1,6 @@
 //! Paths from a variable along associations, and which of them a key tells.
 
-ghost use Rattle.std.specs.Prelude.{◌≡◌, ◌++◌, ◌∷◌, IfOk, OnOk, option_copied};
+ghost use Rattle.std.specs.Prelude.{◌≡◌, ◌∷◌, IfOk, option_copied};
 ghost use Rattle.doll_schema.specs.Lookups.{many_of};
 ghost use Rattle.doll_lint.specs.Paths as spec;
 

@@ -1,6 +1,6 @@
 //! What an expression is to a lint.
 
-ghost use Rattle.std.specs.Prelude.{◌≡◌, ◌++◌, [], ◌∷◌, List, ℕ, IfOk, OnOk, find, reverse, bytes_eq};
+ghost use Rattle.std.specs.Prelude.{◌≡◌, ◌++◌, [], List, ℕ, IfOk, OnOk, find, reverse, bytes_eq};
 ghost use Rattle.std.specs.Option.{option_copied};
 ghost use Rattle.doll_lint.specs.declared.path.Path.{Path};
 ghost use Rattle.doll_lint.specs.Readings as spec;

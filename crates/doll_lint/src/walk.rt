@@ -1,8 +1,7 @@
 //! The cached blocks of a template, each found where it stands.
 
-ghost use Rattle.std.specs.Prelude.{◌≡◌, ◌++◌, ◌∷◌, ◌-◌, [], IfOk, OnOk, codes, length, take};
-ghost use Rattle.doll_set.specs.Dependencies.{names_of, partial_of};
-ghost use Rattle.doll_set.specs.Digests.{name_at};
+ghost use Rattle.std.specs.Prelude.{◌≡◌, ◌++◌, ◌∷◌, ◌-◌, [], IfOk, OnOk, length, take};
+ghost use Rattle.doll_set.specs.Dependencies.{partial_of};
 ghost use Rattle.doll_lint.specs.Blocks as spec;
 ghost use Rattle.doll_lint.specs.Found.{Grows};
 ghost use Rattle.doll_lint.specs.Needs.{tree_at};

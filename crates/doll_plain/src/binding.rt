@@ -1,7 +1,6 @@
 //! Variables of a body, and the items that they stand for.
 
-ghost use Rattle.std.specs.Prelude.{◌≡◌, ◌++◌, ◌∷◌, ◌-◌, [], IfOk, OnOk, length, map, take, All, IsSome};
-ghost use Rattle.doll_table.specs.Tables.{row_of};
+ghost use Rattle.std.specs.Prelude.{◌≡◌, ◌++◌, ◌∷◌, ◌-◌, [], IfOk, OnOk, length, map, take};
 ghost use Rattle.doll_table.specs.Fits.{Fits};
 ghost use Rattle.doll_eval.specs.Living.{IsLiving, AreLiving};
 ghost use Rattle.doll_erb.specs.declared.node.Local.{Local};

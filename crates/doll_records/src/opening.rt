@@ -1,6 +1,6 @@
 //! Opening the history that a keeper keeps.
 
-ghost use Rattle.std.specs.Prelude.{◌≡◌, ◌+◌, ◌<◌, ◌≤◌, ◌∷◌, [], ◌++◌, ℕ, map, length, IfOk, IfErr};
+ghost use Rattle.std.specs.Prelude.{◌≡◌, ◌+◌, ◌<◌, ◌∷◌, [], ◌++◌, map, length, IfOk, IfErr};
 ghost use Rattle.doll_base.specs.Faults.{KeepsCount, HasCause};
 ghost use Rattle.doll_text.specs.Gives.{Gives};
 ghost use Rattle.doll_keep.specs.Calls.{Serves};

@@ -1,6 +1,6 @@
 //! Playing one order.
 
-ghost use Rattle.std.specs.Prelude.{◌≡◌, ◌++◌, not, IfOk, OnOk};
+ghost use Rattle.std.specs.Prelude.{◌≡◌, ◌++◌, IfOk, OnOk};
 ghost use Rattle.std.specs.Str.{IsUtf8};
 ghost use Rattle.doll_core.specs.States.{state_of};
 ghost use Rattle.doll_core.specs.Steps.{MayStep};

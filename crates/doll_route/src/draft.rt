@@ -1,12 +1,12 @@
 //! Routes as they are written: what they are about is still a name.
 
-ghost use Rattle.std.specs.Prelude.{◌≡◌, true, codes, option_map, IfOk};
+ghost use Rattle.std.specs.Prelude.{◌≡◌, true, option_map, IfOk};
 ghost use Rattle.std.specs.Option.{ok_or};
 ghost use Rattle.serde_json.specs.Find.{as_str};
 ghost use Rattle.serde_json.specs.View.{view};
 ghost use Rattle.doll_text.specs.Gives.{Gives};
 ghost use Rattle.doll_text.specs.Segments.{is_virtual_path};
-ghost use Rattle.doll_route.specs.Drafts.{draft_of, name_in, names_from, names_record, named_at, names_at, virtual_path_at};
+ghost use Rattle.doll_route.specs.Drafts.{draft_of, name_in, names_record, named_at, names_at, virtual_path_at};
 
 use crate::fault::RouteFault;
 use crate::route::Names;

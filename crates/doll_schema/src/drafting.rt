@@ -1,6 +1,6 @@
 //! Reading models from JSON, each with its own faults.
 
-ghost use Rattle.std.specs.Prelude.{◌≡◌, ◌<◌, ◌≤◌, ◌++◌, ◌||◌, [], length, map, option_map, codes, IfOk, OnOk};
+ghost use Rattle.std.specs.Prelude.{◌≡◌, ◌<◌, ◌≤◌, ◌||◌, [], length, option_map, codes, IfOk, OnOk};
 ghost use Rattle.std.specs.List.{list_any};
 ghost use Rattle.std.specs.Option.{ok_or};
 ghost use Rattle.std.specs.Str.{bytes_eq};
@@ -9,7 +9,7 @@ ghost use Rattle.serde_json.specs.View.{items_view, view};
 ghost use Rattle.doll_text.specs.Gives.{Gives};
 ghost use Rattle.doll_schema.specs.Limits.{AreFewModels, HasFewDrafts, AreDraftsWithinLimits};
 ghost use Rattle.doll_schema.specs.Lookups.{key_name};
-ghost use Rattle.doll_schema.specs.Drafts.{attribute_draft, attributes_from, parent_draft, parents_from, many_draft, manys_from, attributes_of, parents_of, manys_of, model_draft, model_with, models_from, drafts_of, name_at, kind_named, destroy_named, destroy_if_given, is_taken, is_model, is_plural, has_model_keys, model_items, place};
+ghost use Rattle.doll_schema.specs.Drafts.{attribute_draft, parent_draft, many_draft, attributes_of, parents_of, manys_of, model_draft, model_with, models_from, drafts_of, name_at, kind_named, destroy_named, destroy_if_given, is_taken, is_model, is_plural, has_model_keys, model_items, place};
 
 use crate::draft::{ManyDraft, ManyDrafts, ModelDraft, ModelDrafts, ParentDraft, ParentDrafts};
 use crate::fault::{Part, Place, SchemaFault};

@@ -1,10 +1,10 @@
 //! Reading what stands under the keys of a JSON object.
 
-ghost use Rattle.std.specs.Prelude.{◌≡◌, Bool, map, option_map};
+ghost use Rattle.std.specs.Prelude.{◌≡◌, map, option_map};
 ghost use Rattle.std.specs.List.{list_any};
 ghost use Rattle.std.specs.Str.{bytes_eq};
 ghost use Rattle.serde_json.specs.View.{items_view, members_view, view};
-ghost use Rattle.doll_schema.specs.Json.{has_only, text_at, list_at, list_or_empty, whole_at, bool_or, members_within, object_at};
+ghost use Rattle.doll_schema.specs.Json.{has_only, text_at, list_at, list_or_empty, whole_at, bool_or, object_at};
 
 use serde_json::{Map, Value};
 

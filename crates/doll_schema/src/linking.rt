@@ -1,9 +1,8 @@
 //! Looking up what models refer to.
 
-ghost use Rattle.std.specs.Prelude.{◌≡◌, ◌<◌, ◌≤◌, ◌&&◌, ◌==◌, ◌++◌, [], length, IfOk, IfSome};
+ghost use Rattle.std.specs.Prelude.{◌≡◌, ◌<◌, ◌≤◌, ◌&&◌, ◌==◌, [], length, IfOk};
 ghost use Rattle.std.specs.Str.{bytes_eq};
 ghost use Rattle.doll_text.specs.Gives.{Gives};
-ghost use Rattle.doll_schema.specs.Drafts.{place};
 ghost use Rattle.doll_schema.specs.Limits.{HasFewDrafts, HasFewParts, AreDraftsWithinLimits, AreWithinLimits};
 ghost use Rattle.doll_schema.specs.Schemas.{draft_named, parent_draft_named, inverse_named, has_inverse, belongs_to_of, has_many_of, belongs_to_from, has_many_from, linked_model, linked_from};
 

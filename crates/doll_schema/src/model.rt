@@ -1,6 +1,6 @@
 //! The models of a site: what its records hold and how they belong together.
 
-ghost use Rattle.std.specs.Prelude.{◌≡◌, ◌<◌, length, slice_get, bytes_eq, position, IfOk, IfSome};
+ghost use Rattle.std.specs.Prelude.{◌≡◌, ◌<◌, length, slice_get, bytes_eq, position, IfSome};
 ghost use Rattle.std.specs.Option.{option_copied};
 ghost use Rattle.serde_json.specs.View.{view};
 ghost use Rattle.doll_text.specs.Gives.{Gives};

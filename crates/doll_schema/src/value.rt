@@ -1,7 +1,5 @@
 //! Values, records and what a variable of a template may hold.
 
-ghost use Rattle.std.specs.Prelude.{◌≡◌, IfOk};
-
 use doll_text::{Copied, Ids, Items, Memory, Name, Shared, Text};
 use std::alloc::Global;
 

@@ -1,7 +1,6 @@
 //! How a line is taken apart: its front, the spaces between its words, its paths.
 
 ghost use Rattle.std.specs.Prelude.{◌≡◌, option_map};
-ghost use Rattle.std.specs.List.{list_any};
 ghost use Rattle.doll_script.specs.Pieces as spec;
 
 use doll_text::bytes::SLASH;

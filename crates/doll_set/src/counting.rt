@@ -1,9 +1,9 @@
 //! How many nodes trees have.
 
-ghost use Rattle.std.specs.Prelude.{◌≡◌, ◌+◌, ◌-◌, ◌^◌, min};
+ghost use Rattle.std.specs.Prelude.{◌≡◌, ◌-◌, ◌^◌, min};
 ghost use Rattle.doll_set.specs.Weights as spec;
 
-use doll_erb::{Arm, Node};
+use doll_erb::Node;
 
 /// How many nodes a tree has at any depth, or 2^32 − 1 where it has more.
 #[cycle(count)]

@@ -1,6 +1,6 @@
 //! The partials that tags of templates name, to be found by their places.
 
-ghost use Rattle.std.specs.Prelude.{◌≡◌, ◌++◌, ◌<◌, length, map, IfOk, OnOk, IfSome};
+ghost use Rattle.std.specs.Prelude.{◌≡◌, ◌++◌, ◌<◌, length, IfOk, OnOk, IfSome};
 ghost use Rattle.doll_digest.specs.Registries.{names_in};
 ghost use Rattle.doll_set.specs.Dependencies.{names_of};
 ghost use Rattle.doll_set.specs.Partials as spec;

@@ -2,7 +2,7 @@
 
 ghost use Rattle.std.specs.Prelude.{◌≡◌, ◌<◌, ◌^◌, None, Some, length, map, option_copied, slice_get, IfOk, OnOk, IfSome};
 ghost use Rattle.doll_text.specs.Gives.{Gives};
-ghost use Rattle.doll_digest.specs.Registries.{NumbersStay, TextsStay, names_in};
+ghost use Rattle.doll_digest.specs.Registries.{NumbersStay, TextsStay};
 ghost use Rattle.doll_set.specs.Dependencies.{graph_of, names_of, number_of, partial_of};
 ghost use Rattle.doll_set.specs.Digests.{EachIsThere, name_at, too_deep};
 ghost use Rattle.doll_set.specs.Order.{Ascend};

@@ -1,6 +1,6 @@
 //! How heavy templates are.
 
-ghost use Rattle.std.specs.Prelude.{◌≡◌, ◌<◌, ◌+◌, ◌-◌, ◌^◌, nat_lt, length, map, min, IfOk};
+ghost use Rattle.std.specs.Prelude.{◌≡◌, ◌<◌, ◌-◌, ◌^◌, nat_lt, length, map, min, IfOk};
 ghost use Rattle.std.specs.List.{find, range_with_len, sum_by};
 ghost use Rattle.doll_set.specs.declared.limits.TheConstants.{GREATEST_WEIGHT, LONGEST_CHAIN};
 ghost use Rattle.doll_set.specs.Weights as spec;

@@ -1,13 +1,11 @@
 //! A shelf in memory.
 
-ghost use Rattle.std.specs.Prelude.{◌≡◌, ◌+◌, ◌<◌, ◌≤◌, [], length, IfErr, OnOk, OnErr, Some, min};
-ghost use Rattle.std.specs.List.{prefix_len};
-ghost use Rattle.doll_base.specs.Faults.{HasCause, KeepsCount};
+ghost use Rattle.std.specs.Prelude.{◌≡◌, ◌+◌, ◌<◌, [], length, IfErr, OnOk, OnErr, Some, min};
 ghost use Rattle.doll_shelf.specs.Batches as batch;
-ghost use Rattle.doll_shelf.specs.Calls.{IsShelf, IsWithin};
+ghost use Rattle.doll_shelf.specs.Calls.{IsShelf};
 ghost use Rattle.doll_shelf.specs.Fetches as spec;
 ghost use Rattle.doll_shelf.specs.Settings.{AreValid};
-ghost use Rattle.doll_shelf.specs.declared.shelf.ShelfFault.TheVariants.{Failed, Memory as NoMemory};
+ghost use Rattle.doll_shelf.specs.declared.shelf.ShelfFault.TheVariants.{Memory as NoMemory};
 
 use crate::entries::Entries;
 use crate::kept::kept_of;
@@ -15,7 +13,6 @@ use crate::settings::ShelfSettings;
 use crate::shelf::{Shelf, ShelfFault};
 use doll_entry::{Ask, Fetched, Fresh, counted_time};
 use doll_key::{KeyText, Versions};
-use doll_text::Memory;
 use std::alloc::Global;
 use std::hash::RandomState;
 use std::marker::Model;

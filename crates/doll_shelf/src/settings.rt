@@ -1,10 +1,5 @@
 //! The settings of a shelf.
 
-ghost use Rattle.std.specs.Prelude.{◌↔◌, IsTrue};
-ghost use Rattle.doll_shelf.specs.Settings.{AreValid};
-
-use doll_entry::LATEST_TIME;
-
 /// The most entries of a batch.
 pub const MOST_IN_BATCH: u32 = 10_000;
 

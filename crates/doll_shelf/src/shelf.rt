@@ -9,7 +9,6 @@ ghost use Rattle.doll_shelf.specs.Fetches as spec;
 ghost use Rattle.doll_shelf.specs.declared.settings.ShelfSettings.{ShelfSettings as Settings};
 ghost use Rattle.doll_shelf.specs.declared.shelf.ShelfFault.TheVariants.{Failed, Memory as NoMemory};
 
-use crate::settings::ShelfSettings;
 use doll_entry::{Ask, Fetched, Fresh};
 use doll_key::{KeyText, Versions};
 use doll_text::Memory;

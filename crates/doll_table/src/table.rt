@@ -1,6 +1,6 @@
 //! A table of rows by model and id, kept in pages that several tables may share.
 
-ghost use Rattle.std.specs.Prelude.{◌≡◌, ◌<◌, length, map, is_some, IfOk, OnOk, OnErr, IsSome};
+ghost use Rattle.std.specs.Prelude.{◌≡◌, ◌<◌, length, map, is_some, IfOk, OnOk, OnErr};
 ghost use Rattle.std.specs.List.{enumerate_from};
 ghost use Rattle.std.specs.Option.{option_copied};
 ghost use Rattle.doll_table.specs.Tables.{empty_table, row_of, ids_of, children_of, ids_under, next_of, put_row, without_row, without_rows, ids_among, extent_without, put_next};

@@ -1,6 +1,6 @@
 //! Texts of segments with slashes between them: paths and the names of partials.
 
-ghost use Rattle.std.specs.Prelude.{◌≡◌, ◌<◌, ◌≤◌, ◌^◌, ◌&&◌, nat_le, length};
+ghost use Rattle.std.specs.Prelude.{◌≡◌, ◌≤◌, ◌&&◌, nat_le, length};
 ghost use Rattle.std.specs.List.{count_by};
 ghost use Rattle.doll_text.specs.Segments as spec;
 ghost use Rattle.doll_text.specs.declared.segments.TheConstants.{MOST_SEGMENTS};

@@ -1,7 +1,7 @@
 //! The type of an expression.
 
-ghost use Rattle.std.specs.Prelude.{◌≡◌, ℕ, List, Some, None, IfOk, find, reverse, slice_get, bytes_eq};
-ghost use Rattle.std.specs.Option.{ok_or, option_copied, option_map};
+ghost use Rattle.std.specs.Prelude.{◌≡◌, ℕ, List, Some, None, IfOk, find, reverse, bytes_eq};
+ghost use Rattle.std.specs.Option.{ok_or, option_copied};
 ghost use Rattle.doll_types.specs.declared.types.ValueType.{ValueType};
 ghost use Rattle.doll_types.specs.declared.types.TypeKind.TheVariants as kinds;
 ghost use Rattle.doll_types.specs.Types as spec;

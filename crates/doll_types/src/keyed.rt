@@ -5,7 +5,7 @@ ghost use Rattle.std.specs.Prelude.{◌≡◌, true, IfOk};
 use crate::operators::is_same;
 use crate::types::{Typing, ValueType};
 use doll_text::{Copied, Items, Memory, Name};
-use std::alloc::{AllocError, Global};
+use std::alloc::Global;
 
 /// The key of a template with a typing: its number, and of each variable the name, the place of its type among the types, below
 /// each byte of a name, and the number of its model.

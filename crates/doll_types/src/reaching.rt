@@ -1,6 +1,6 @@
 //! What the pages of routes reach, each template with the types of its variables.
 
-ghost use Rattle.std.specs.Prelude.{◌≡◌, ◌++◌, ◌∷◌, ◌<◌, ℕ, List, [], Some, true, length, map, slice_get, IfOk, IfSome, OnOk};
+ghost use Rattle.std.specs.Prelude.{◌≡◌, ◌++◌, ◌∷◌, ◌<◌, List, [], Some, length, slice_get, IfOk, IfSome, OnOk};
 ghost use Rattle.std.specs.List.{flat_map};
 ghost use Rattle.doll_set.specs.Digests.{name_at};
 ghost use Rattle.doll_types.specs.declared.reached.Reached.{Reached};

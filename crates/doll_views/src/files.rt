@@ -1,6 +1,6 @@
 //! The files of a site once those that a folder has are read.
 
-ghost use Rattle.std.specs.Prelude.{◌≡◌, ◌∷◌, ◌++◌, [], length, map, IfOk, Ok};
+ghost use Rattle.std.specs.Prelude.{◌≡◌, ◌∷◌, ◌++◌, [], map, IfOk, Ok};
 ghost use Rattle.std.specs.Str.{is_utf8};
 ghost use Rattle.doll_base.specs.Faults.{KeepsCount, HasCause};
 ghost use Rattle.doll_text.specs.Gives.{Gives, GivesBy};

@@ -1,6 +1,6 @@
 //! The files of a site's templates, as a bundle names them.
 
-ghost use Rattle.std.specs.Prelude.{◌≡◌, [], not, option_map, map, IfOk, OnOk};
+ghost use Rattle.std.specs.Prelude.{◌≡◌, [], not, option_map, IfOk, OnOk};
 ghost use Rattle.std.proofs.Common.{refl, rules};
 ghost use Rattle.std.specs.Cmp.{partial_order_from_own_ties};
 ghost use Rattle.std.specs.Cmp.Rules.{comparing};
@@ -9,7 +9,7 @@ ghost use Rattle.std.specs.Ordering.{as_partial_cmp};
 ghost use Rattle.std.specs.Str.{bytes_eq};
 ghost use Rattle.serde_json.specs.Find.{as_str};
 ghost use Rattle.serde_json.specs.View.{items_view, members_view, view};
-ghost use Rattle.doll_text.specs.Gives.{Gives, GivesBy, GivesExactly};
+ghost use Rattle.doll_text.specs.Gives.{GivesBy, GivesExactly};
 ghost use Rattle.doll_schema.specs.Json.{list_if_given};
 ghost use Rattle.doll_digest.specs.Registries.{name_added, names_in};
 ghost use Rattle.doll_views.specs.Files.{wanted_names};
